@@ -1,0 +1,4 @@
+pub mod Stored
+pub mod Numbers
+pub mod Tables
+pub mod Theorems

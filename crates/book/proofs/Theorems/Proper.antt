@@ -1,0 +1,179 @@
+-- A list of accepted calls is proper where each of them was allowed by those before it. Then ids rise: an id above all
+-- accepted ones was never used, and an accepted one has one pair. Assumes nothing.
+use Prim.Native.Nat.{ℕ, zero, suc, _+_, _-_, _≤_, _<_, max}
+use native.Mathlib.Nat.{le-refl}
+use native.Mathlib.Omega.{arith}
+use mathlib.Core.Path.{_≡_, refl, sym, ap, _∙_}
+use mathlib.Core.Bool.{Bool, true, false, cond, not, _&&_, _||_, and-false}
+use mathlib.Core.List.{List, [], _∷_, _++_}
+use lib.Dec.{leb, ltb, eqb}
+use borrow.Author.Tests.{eqb-true, ne-eqb, eq-eqb}
+use Rattle.book.specs.Sums.{only, total, All}
+use Rattle.book.specs.Pairs.{Entry, Pair, blank, isOpen}
+use Rattle.book.specs.Figures.{Posting, failing, failPostings}
+use Rattle.book.specs.Answers.{Call, answer}
+use Rattle.book.specs.History.{isClose, dayOf, pairs, parts, settledOn, cancelledBefore, cancelledOn, beforeCancel}
+use Rattle.book.specs.Counted.{replayed, life, highestId, openOnly, viewOfCalls}
+use Rattle.book.proofs.Theorems.Sums.{tests, clash, all-map}
+use Rattle.book.proofs.Theorems.Allowed.{Allowed, EnterAllowed, OpenAllowed, SettleAllowed, allowed}
+
+abbrev pub Proper : List Call → Type 0
+Proper [] = Unit
+Proper (c ∷ h) = (answer (viewOfCalls h) c ≡ 0) × Proper h
+
+-- ---- the pair of an id
+
+pub openOnly-open : (p : Pair) → isOpen (openOnly p) ≡ true → (isOpen p ≡ true) × (openOnly p ≡ p)
+openOnly-open p h = go (isOpen p) refl h
+  where
+    go : (t : Bool) → isOpen p ≡ t → isOpen (cond t p blank) ≡ true → (isOpen p ≡ true) × (cond t p blank ≡ p)
+    go true e k = (e, refl)
+    go false e k = clash k refl
+
+-- what an accepted call on an id says of the pair replayed
+pub open-replayed : (h : List Call) (i : ℕ) → isOpen (viewOfCalls h .pair i) ≡ true
+    → (isOpen (replayed h i) ≡ true) × (viewOfCalls h .pair i ≡ replayed h i)
+unfolding viewOfCalls
+open-replayed h i o = openOnly-open (replayed h i) o
+
+-- ---- a call that leaves the pair of an id alone
+
+-- the call names id i
+abbrev pub concerns : ℕ → Call → Bool
+concerns i (Call.Enter e) = eqb (e .id) i
+concerns i (Call.Hold id side on) = eqb id i
+concerns i (Call.Lack id lack) = eqb id i
+concerns i (Call.Settle id part) = eqb id i
+concerns i (Call.Cancel id) = eqb id i
+concerns i Call.Close = false
+
+-- the readings of id i are those before the call
+pub record Untouched (c : Call) (h : List Call) (i : ℕ) : Type 0 where
+  pub replay : replayed (c ∷ h) i ≡ replayed h i
+  pub lived : life (c ∷ h) i ≡ life h i
+  pub part : parts (c ∷ h) i ≡ parts h i
+  pub settle : (d : ℕ) → settledOn (c ∷ h) d i ≡ settledOn h d i
+  pub cancelBefore : (d : ℕ) → cancelledBefore (c ∷ h) d i ≡ cancelledBefore h d i
+  pub cancelOn : (d : ℕ) → cancelledOn (c ∷ h) d i ≡ cancelledOn h d i
+  pub cancelFrom : (d : ℕ) → beforeCancel (c ∷ h) d i ≡ beforeCancel h d i
+
+pub untouched : (c : Call) (h : List Call) (i : ℕ) → isClose c ≡ false → concerns i c ≡ false → Untouched c h i
+unfolding replayed life parts settledOn cancelledBefore cancelledOn beforeCancel
+untouched (Call.Enter e) h i k n = record {
+  replay = rw n refl;
+  lived = rw n refl;
+  part = refl;
+  settle = λ d. refl;
+  cancelBefore = λ d. refl;
+  cancelOn = λ d. refl;
+  cancelFrom = λ d. refl;
+}
+untouched (Call.Hold id side on) h i k n = record {
+  replay = rw n refl;
+  lived = refl;
+  part = refl;
+  settle = λ d. refl;
+  cancelBefore = λ d. refl;
+  cancelOn = λ d. refl;
+  cancelFrom = λ d. refl;
+}
+untouched (Call.Lack id lack) h i k n = record {
+  replay = rw n refl;
+  lived = refl;
+  part = refl;
+  settle = λ d. refl;
+  cancelBefore = λ d. refl;
+  cancelOn = λ d. refl;
+  cancelFrom = λ d. refl;
+}
+untouched (Call.Settle id part) h i k n = record {
+  replay = rw n refl;
+  lived = rw n refl;
+  part = rw n refl;
+  settle = λ d. rw n refl;
+  cancelBefore = λ d. refl;
+  cancelOn = λ d. refl;
+  cancelFrom = λ d. refl;
+}
+untouched (Call.Cancel id) h i k n = record {
+  replay = rw n refl;
+  lived = refl;
+  part = refl;
+  settle = λ d. refl;
+  cancelBefore = λ d. rw n refl;
+  cancelOn = λ d. rw n refl;
+  cancelFrom = λ d. rw n refl;
+}
+untouched Call.Close h i k n = clash refl k
+
+-- ---- an id that no accepted call has
+
+pub record Unused (h : List Call) (i : ℕ) : Type 0 where
+  pub noPair : (w : Entry → ℕ) → total (λ e. only (eqb i (e .id)) (w e)) (pairs h) ≡ 0
+  pub noReplay : replayed h i ≡ blank
+  pub noLife : life h i ≡ []
+  pub noPart : parts h i ≡ 0
+  pub noSettle : (d : ℕ) → settledOn h d i ≡ false
+  pub noCancelBefore : (d : ℕ) → cancelledBefore h d i ≡ false
+  pub noCancelOn : (d : ℕ) → cancelledOn h d i ≡ false
+
+unused-untouched : (c : Call) (h : List Call) (i : ℕ) → Untouched c h i
+    → ((w : Entry → ℕ) → total (λ e. only (eqb i (e .id)) (w e)) (pairs (c ∷ h)) ≡ 0) → Unused h i → Unused (c ∷ h) i
+unused-untouched c h i S new U = record {
+  noPair = new;
+  noReplay = S .replay ∙ U .noReplay;
+  noLife = S .lived ∙ U .noLife;
+  noPart = S .part ∙ U .noPart;
+  noSettle = λ d. S .settle d ∙ U .noSettle d;
+  noCancelBefore = λ d. S .cancelBefore d ∙ U .noCancelBefore d;
+  noCancelOn = λ d. S .cancelOn d ∙ U .noCancelOn d;
+}
+
+unused-enter : (e : Entry) (h : List Call) (i : ℕ) → e .id < i → Unused h i → Unused (Call.Enter e ∷ h) i
+unfolding pairs
+unused-enter e h i l U =
+    unused-untouched (Call.Enter e) h i (untouched (Call.Enter e) h i refl (ne-eqb (e .id) i (omega arith)))
+    (λ w. rw (ne-eqb i (e .id) (omega arith)) (let s = U .noPair w in omega arith)) U
+
+unused-close : (h : List Call) (i : ℕ) → Unused h i → Unused (Call.Close ∷ h) i
+unfolding pairs replayed life parts settledOn cancelledBefore cancelledOn failPostings
+unused-close h i U = record {
+  noPair = U .noPair;
+  noReplay = U .noReplay;
+  noLife = rw (U .noReplay, U .noLife) refl;
+  noPart = U .noPart;
+  noSettle = U .noSettle;
+  noCancelBefore = U .noCancelBefore;
+  noCancelOn = U .noCancelOn;
+}
+
+-- an accepted call on an open pair has another id
+not-used : (h : List Call) (i id : ℕ) → Unused h i → isOpen (viewOfCalls h .pair id) ≡ true → eqb id i ≡ false
+not-used h i id U o = ne-eqb id i (λ same. clash (open-replayed h id o .0) (rw same (rw (U .noReplay) refl)))
+
+unused-step : (c : Call) (h : List Call) → Allowed (viewOfCalls h) c → (i : ℕ) → highestId (pairs (c ∷ h)) < i
+    → (highestId (pairs h) < i → Unused h i) → Unused (c ∷ h) i
+unfolding pairs
+unused-step (Call.Enter e) h A i l U = unused-enter e h i (omega arith) (U (omega arith))
+unused-step (Call.Hold id side on) h A i l U =
+    let c = Call.Hold id side on in unused-untouched c h i (untouched c h i refl (not-used h i id (U l) (A .isOpen))) (U l .noPair) (U l)
+unused-step (Call.Lack id lack) h A i l U =
+    let c = Call.Lack id lack in unused-untouched c h i (untouched c h i refl (not-used h i id (U l) (A .isOpen))) (U l .noPair) (U l)
+unused-step (Call.Settle id part) h A i l U =
+    let c = Call.Settle id part in unused-untouched c h i (untouched c h i refl (not-used h i id (U l) (A .isOpen))) (U l .noPair) (U l)
+unused-step (Call.Cancel id) h A i l U =
+    let c = Call.Cancel id in unused-untouched c h i (untouched c h i refl (not-used h i id (U l) (A .isOpen))) (U l .noPair) (U l)
+unused-step Call.Close h A i l U = unused-close h i (U l)
+
+pub unused : (h : List Call) → Proper h → (i : ℕ) → highestId (pairs h) < i → Unused h i
+unfolding pairs replayed life parts settledOn cancelledBefore cancelledOn
+unused [] P i l = record {
+  noPair = λ w. refl;
+  noReplay = refl;
+  noLife = refl;
+  noPart = refl;
+  noSettle = λ d. refl;
+  noCancelBefore = λ d. refl;
+  noCancelOn = λ d. refl;
+}
+unused (c ∷ h) P i l = unused-step c h (allowed (viewOfCalls h) c (P .0)) i l (unused h (P .1) i)

@@ -1,0 +1,70 @@
+-- `at_close` meets its contract: each arm by the kind and the holds that it matched, and an arm without a hold by what
+-- `by_lack` ensures. The returns stand in the order of the arms. Assumes nothing.
+use borrow.Author.Needs.{needs}
+use Rattle.book.proofs.sides.at_close.Statement.{statement}
+use Rattle.book.proofs.sides.at_close.Tie as tie
+
+-- ---- free of payment, payment only
+
+returns : tie.Need-returns
+returns c = rw (c .enum-told .given .1)
+
+returns-2 : tie.Need-returns-2
+returns-2 c = rw (c .enum-told2 .given .1)
+
+-- ---- against payment
+
+returns-3 : tie.Need-returns-3
+returns-3 c = rw (c .before .before .enum-told3 .given .1, c .enum-told4 .given .1)
+
+returns-4 : tie.Need-returns-4
+returns-4 c = rw (c .before .before .enum-told3 .given .1, c .enum-told5 .given .1)
+
+returns-5 : tie.Need-returns-5
+returns-5 c = rw (c .before .before .enum-told3 .given .1, c .enum-told6 .given .1)
+
+returns-6 : tie.Need-returns-6
+returns-6 c = rw (c .before .before .before .enum-told3 .given .1, c .before .enum-told7 .given .1) (c .by-lack .ensures)
+
+-- ---- with payment
+
+returns-7 : tie.Need-returns-7
+returns-7 c = rw (c .before .before .enum-told8 .given .1, c .enum-told9 .given .1)
+
+returns-8 : tie.Need-returns-8
+returns-8 c = rw (c .before .before .enum-told8 .given .1, c .enum-told10 .given .1)
+
+returns-9 : tie.Need-returns-9
+returns-9 c = rw (c .before .before .enum-told8 .given .1, c .enum-told11 .given .1)
+
+returns-10 : tie.Need-returns-10
+returns-10 c = rw (c .before .before .before .enum-told8 .given .1, c .before .enum-told12 .given .1) (c .by-lack2 .ensures)
+
+pub at-close-spec : {M : Type 1} → statement M
+at-close-spec =
+    tie.close
+    (tie.spec
+    (λ c. search needs)
+    (λ c. search needs)
+    (λ c. search needs)
+    (λ c. search needs)
+    (λ c. search needs)
+    (λ c. search needs)
+    (λ c. search needs)
+    (λ c κs. search needs)
+    (λ c. search needs)
+    (λ c. search needs)
+    (λ c. search needs)
+    (λ c. search needs)
+    (λ c. search needs)
+    (λ c κs. search needs)
+    returns
+    returns-2
+    returns-3
+    returns-4
+    returns-5
+    returns-6
+    returns-7
+    returns-8
+    returns-9
+    returns-10)

@@ -1,0 +1,71 @@
+-- A list of calls from a fresh book, and demand 3. Document 00, demand 3; document 01, 'A row'. Assumes nothing.
+use Prim.Native.Nat.{ℕ, zero, suc, _+_, _≤_}
+use mathlib.Core.Path.{_≡_}
+use mathlib.Core.List.{List, [], _∷_}
+use lib.Dec.{T}
+use Rattle.book.specs.Figures.{Figure}
+use Rattle.book.specs.Answers.{Call}
+use Rattle.book.specs.Calls.{Book, answerOf, after, freshBook}
+use Rattle.book.specs.Rows.{rowOf}
+use Rattle.book.specs.History.{Event, acceptedCalls, closed, Measure, number, value, newlyDue, cancelled, partSettled}
+
+-- ---- a list of calls
+
+-- the book that was handed back last, and the history so far
+pub record State : Type 0 where
+  pub book : Book
+  pub history : List Event
+
+-- Each call gets the book that the call before handed back.
+unfoldable pub step : State → Call → State
+step s call = record {
+  book = after (s .book) call;
+  history = record { call = call; answer = answerOf (s .book) call } ∷ s .history;
+}
+
+unfoldable pub run : State → List Call → State
+run s [] = s
+run s (call ∷ calls) = run (step s call) calls
+
+-- The list starts at a fresh book, which holds no pair.
+unfoldable pub afterCalls : List Call → State
+afterCalls calls = run (record { book = freshBook; history = [] }) calls
+
+abbrev pub bookAfter : List Call → Book
+bookAfter calls = afterCalls calls .book
+
+abbrev pub acceptedOf : List Call → List Call
+acceptedOf calls = acceptedCalls (afterCalls calls .history)
+
+-- ---- the daily balance
+
+abbrev pub inMeasure : Measure → Figure → ℕ
+inMeasure number f = f .number
+inMeasure value f = f .value
+
+-- securities and cash fails together
+abbrev pub failsOf : Measure → Book → ℕ → ℕ → ℕ
+failsOf m b day category = inMeasure m (rowOf b day category .securities) + inMeasure m (rowOf b day category .cash)
+
+-- in the row of the day before, same category; before day 0 there are no fails
+abbrev pub previousFails : Measure → Book → ℕ → ℕ → ℕ
+previousFails m b zero category = 0
+previousFails m b (suc day) category = failsOf m b day category
+
+-- settled + securities fails + cash fails + cancelled = previous day's fails + newly due, and in number 2 more on the
+-- right for each part-settled pair
+abbrev pub Balances : Measure → Book → List Call → ℕ → ℕ → Type 0
+Balances m b h day category =
+    inMeasure m (rowOf b day category .settled)
+    + inMeasure m (rowOf b day category .securities)
+    + inMeasure m (rowOf b day category .cash)
+    + cancelled m h day category
+    ≡ previousFails m b day category + newlyDue m h day category + partSettled m h day category
+
+-- After every list of calls, the row of each closed day and each category, 0 to 9, balances.
+abbrev pub Demand3 : Type 0
+Demand3 =
+    (calls : List Call) (m : Measure) (day category : ℕ)
+    → category ≤ 9
+    → T (closed (acceptedOf calls) day)
+    → Balances m (bookAfter calls) (acceptedOf calls) day category

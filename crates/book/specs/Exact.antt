@@ -1,0 +1,45 @@
+-- No sum reaches its cap: for every list of calls each figure of a row is the plain sum, and far below the largest
+-- number of 64 bits, also when added up over all days. Assumes nothing.
+use Prim.Native.Nat.{ℕ, zero, suc, _+_, _*_, _≤_, _<_}
+use mathlib.Core.Path.{_≡_}
+use mathlib.Core.List.{List, [], _∷_}
+use Rattle.book.specs.Limits.{dayLimit, largestStored}
+use Rattle.book.specs.Answers.{Call}
+use Rattle.book.specs.Calls.{Book}
+use Rattle.book.specs.Rows.{cellOf, rowOf}
+use Rattle.book.specs.History.{Measure, number, value}
+use Rattle.book.specs.Balance.{bookAfter, inMeasure}
+use Rattle.book.specs.Counted.{Column, column}
+
+-- The most that a row can total. At most 65,535 pairs are accepted; on a day each has 2 SIs settled and 2 failing at
+-- the most, and settled and failing value of twice 10,000,000,000 cents together.
+abbrev pub most : Measure → ℕ
+most number = 262140
+most value = 1310700000000000
+
+-- a figure added up over n numbers from `first` on
+abbrev pub sumFrom : (ℕ → ℕ) → ℕ → ℕ → ℕ
+sumFrom f first zero = 0
+sumFrom f first (suc n) = f first + sumFrom f (suc first) n
+
+abbrev pub totalOn : Measure → Book → ℕ → ℕ → ℕ
+totalOn m b category day = inMeasure m (rowOf b day category .total)
+
+pub record Exact (b : Book) : Type 0 where
+  -- total is settled + securities fails + cash fails
+  pub totals : (m : Measure) (day category : ℕ) → day < dayLimit → category ≤ 9
+      → totalOn m b category day
+      ≡ inMeasure m (rowOf b day category .settled) + inMeasure m (rowOf b day category .securities) + inMeasure m (rowOf b day category .cash)
+  -- category 0 is the sum of categories 1 to 9
+  pub categories : (figure : Column) (day : ℕ) → day < dayLimit
+      → column figure (cellOf (b .cells) day 0) ≡ sumFrom (λ c. column figure (cellOf (b .cells) day c)) 1 9
+  pub rows : (m : Measure) (day category : ℕ) → day < dayLimit → category ≤ 9 → totalOn m b category day ≤ most m
+  -- ISD value is a part of the fails
+  pub isdValues : (day category : ℕ) → day < dayLimit → category ≤ 9
+      → rowOf b day category .«isd_value» ≤ inMeasure value (rowOf b day category .securities) + inMeasure value (rowOf b day category .cash)
+  pub runs : (m : Measure) (category first n : ℕ) → first + n ≤ dayLimit → category ≤ 9
+      → sumFrom (totalOn m b category) first n ≤ n * most m
+
+-- 64 days at the most: 83,884,800,000,000,000 cents, below 18,446,744,073,709,551,615
+abbrev pub NoCapReached : Type 0
+NoCapReached = ((calls : List Call) → Exact (bookAfter calls)) × (dayLimit * most value < largestStored)

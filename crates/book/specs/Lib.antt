@@ -1,0 +1,14 @@
+pub mod Limits
+pub mod Sums
+pub mod Pairs
+pub mod SideOfFail
+pub mod SideTable
+pub mod Figures
+pub mod Placed
+pub mod Answers
+pub mod Calls
+pub mod Rows
+pub mod History
+pub mod Balance
+pub mod Counted
+pub mod Exact

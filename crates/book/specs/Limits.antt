@@ -1,0 +1,29 @@
+-- The limits of document 01, each said once. Assumes nothing.
+use Prim.Native.Nat.{ℕ}
+
+-- business days, 0 to 63
+abbrev pub dayLimit : ℕ
+dayLimit = 64
+
+-- categories 1 to 9, points (i) to (ix) of Article 13(1)(c)
+abbrev pub categoryCount : ℕ
+categoryCount = 9
+
+-- a cell for each day and category
+abbrev pub cellCount : ℕ
+cellCount = 576
+
+-- pairs open at one time
+abbrev pub openLimit : ℕ
+openLimit = 1024
+
+abbrev pub largestId : ℕ
+largestId = 65535
+
+-- in euro cents, of one SI
+abbrev pub largestAmount : ℕ
+largestAmount = 10000000000
+
+-- the largest number of 64 bits
+abbrev pub largestStored : ℕ
+largestStored = 18446744073709551615

@@ -1,0 +1,131 @@
+-- A pair and what a call changes of it. Document 01, 'The pair' and 'The six calls'. Assumes nothing.
+use Prim.Native.Nat.{ℕ, zero, suc, _-_}
+use mathlib.Core.Bool.{Bool, true, false, cond, _&&_, _||_}
+use lib.Dec.{leb, ltb, eqb}
+use Rattle.book.specs.Limits.{dayLimit, categoryCount, largestId, largestAmount}
+use Rattle.book.specs.Sums.{within}
+pub use Rattle.book.specs.declared.pairs.Kind.{Kind}
+pub use Rattle.book.specs.declared.pairs.Side.{Side}
+pub use Rattle.book.specs.declared.pairs.Holds.{Holds}
+pub use Rattle.book.specs.declared.pairs.Lack.{Lack}
+pub use Rattle.book.specs.declared.pairs.Entry.{Entry}
+pub use Rattle.book.specs.declared.pairs.Terms.{Terms}
+pub use Rattle.book.specs.declared.pairs.Pair.{Pair}
+
+-- ---- the paper's numbers
+
+-- kind: 1 DVP/RVP, 2 DWP/RWP, 3 DFP/RFP, 4 DPFOD/CPFOD
+abbrev pub kindNumber : Kind → ℕ
+kindNumber Kind.AgainstPayment = 1
+kindNumber Kind.WithPayment = 2
+kindNumber Kind.FreeOfPayment = 3
+kindNumber Kind.PaymentOnly = 4
+
+abbrev pub kindOf : ℕ → Kind
+kindOf n =
+    cond (eqb n 1) Kind.AgainstPayment
+    (cond (eqb n 2) Kind.WithPayment
+    (cond (eqb n 3) Kind.FreeOfPayment Kind.PaymentOnly))
+
+-- side: who entered last, 1 deliverer, 2 receiver
+abbrev pub sideNumber : Side → ℕ
+sideNumber Side.Deliverer = 1
+sideNumber Side.Receiver = 2
+
+abbrev pub sideOf : ℕ → Side
+sideOf n = cond (eqb n 1) Side.Deliverer Side.Receiver
+
+-- lack: 0 none, 1 securities, 2 cash
+abbrev pub lackNumber : Lack → ℕ
+lackNumber Lack.Nothing = 0
+lackNumber Lack.Securities = 1
+lackNumber Lack.Cash = 2
+
+abbrev pub lackOf : ℕ → Lack
+lackOf n = cond (eqb n 0) Lack.Nothing (cond (eqb n 1) Lack.Securities Lack.Cash)
+
+-- ---- holds, one on each side
+
+abbrev pub byDeliverer : Holds → Bool
+byDeliverer Holds.Neither = false
+byDeliverer Holds.Deliverer = true
+byDeliverer Holds.Receiver = false
+byDeliverer Holds.Both = true
+
+abbrev pub byReceiver : Holds → Bool
+byReceiver Holds.Neither = false
+byReceiver Holds.Deliverer = false
+byReceiver Holds.Receiver = true
+byReceiver Holds.Both = true
+
+abbrev pub holdsOf : Bool → Bool → Holds
+holdsOf true true = Holds.Both
+holdsOf true false = Holds.Deliverer
+holdsOf false true = Holds.Receiver
+holdsOf false false = Holds.Neither
+
+abbrev pub anyHold : Holds → Bool
+anyHold h = byDeliverer h || byReceiver h
+
+-- the hold of one side, 1 deliverer, 2 receiver, put on by 1 and off by 0
+abbrev pub setHold : ℕ → ℕ → Holds → Holds
+setHold side on h = cond (eqb side 1) (holdsOf (eqb on 1) (byReceiver h)) (holdsOf (byDeliverer h) (eqb on 1))
+
+-- ---- the pair as entered
+
+-- each value of an enter in its range
+abbrev pub inRange : Entry → Bool
+inRange e =
+    within 1 largestId (e .id)
+    && within 1 4 (e .kind)
+    && within 1 categoryCount (e .category)
+    && ltb (e .isd) dayLimit
+    && within 1 2 (e .side)
+    && within 1 largestAmount (e .amount)
+
+-- the terms of an accepted enter
+abbrev pub terms : Entry → Terms
+terms e = record {
+  amount = e .amount;
+  id = e .id;
+  kind = kindOf (e .kind);
+  category = e .category;
+  isd = e .isd;
+  side = sideOf (e .side);
+}
+
+-- At the start there is no hold and no lack.
+abbrev pub entered : Terms → Pair
+entered e = record { terms = e; rest = e .amount; holds = Holds.Neither; lack = Lack.Nothing; «last_part» = 0 }
+
+-- a place that never held a pair
+abbrev pub blank : Pair
+blank = entered (record { amount = 0; id = 0; kind = Kind.AgainstPayment; category = 0; isd = 0; side = Side.Deliverer })
+
+-- A pair is open until its rest is 0 or it is cancelled.
+abbrev pub isOpen : Pair → Bool
+isOpen p = ltb 0 (p .rest)
+
+-- a part of the pair settled on that day
+abbrev pub partOn : ℕ → Pair → Bool
+partOn day p = eqb (p .«last_part») (suc day)
+
+-- ---- what a call changes of a pair
+
+abbrev pub withHold : ℕ → ℕ → Pair → Pair
+withHold side on p = record {
+  terms = p .terms;
+  rest = p .rest;
+  holds = setHold side on (p .holds);
+  lack = p .lack;
+  «last_part» = p .«last_part»;
+}
+
+abbrev pub withLack : ℕ → Pair → Pair
+withLack lack p = record { terms = p .terms; rest = p .rest; holds = p .holds; lack = lackOf lack; «last_part» = p .«last_part» }
+
+abbrev pub withPart : ℕ → ℕ → Pair → Pair
+withPart today part p = record { terms = p .terms; rest = p .rest - part; holds = p .holds; lack = p .lack; «last_part» = suc today }
+
+abbrev pub ended : Pair → Pair
+ended p = record { terms = p .terms; rest = 0; holds = p .holds; lack = p .lack; «last_part» = p .«last_part» }

@@ -1,0 +1,55 @@
+-- A row, as it is given for a closed day. Document 01, 'A row' and 'Numbers given back'. Assumes nothing.
+use Prim.Native.Nat.{ℕ, zero, suc, _+_}
+use mathlib.Core.Bool.{Bool, true, false, cond, not, _&&_}
+use mathlib.Core.List.{List, [], _∷_}
+use lib.Dec.{leb, ltb}
+use Rattle.book.specs.Limits.{dayLimit, categoryCount}
+use Rattle.book.specs.Figures.{Figure, Cell, none, cellAt, addFigure, addCell}
+use Rattle.book.specs.Answers.{refusalNumber}
+use Rattle.book.specs.Calls.{Book}
+pub use Rattle.book.specs.declared.rows.Row.{Row}
+pub use Rattle.book.specs.declared.rows.RowAnswer.{RowAnswer}
+
+-- the sum of the cells of n categories of a day, from category c on
+abbrev pub cellsFrom : ℕ → ℕ → List Cell → ℕ → Cell
+cellsFrom zero c cells day = none
+cellsFrom (suc n) c cells day = addCell (cellAt cells day c) (cellsFrom n (suc c) cells day)
+
+-- category 0 is all nine together, another its own
+unfoldable pub cellOf : List Cell → ℕ → ℕ → Cell
+cellOf cells day zero = cellsFrom categoryCount 1 cells day
+cellOf cells day (suc c) = cellAt cells day (suc c)
+
+-- total, which is the sum of settled, securities fails and cash fails
+abbrev pub rowFrom : Cell → Row
+rowFrom c = record {
+  total = addFigure (c .settled) (addFigure (c .securities) (c .cash));
+  settled = c .settled;
+  securities = c .securities;
+  cash = c .cash;
+  «isd_value» = c .«isd_value»;
+}
+
+abbrev pub rowOf : Book → ℕ → ℕ → Row
+rowOf b day category = rowFrom (cellOf (b .cells) day category)
+
+-- ---- what comes back
+
+-- a number and no figures, or the figures
+pub data Given : Type 0 where
+  refusedBy : ℕ → Given
+  figures : Row → Given
+
+abbrev pub givenBy : RowAnswer → Given
+givenBy (RowAnswer.Figures r) = figures r
+givenBy (RowAnswer.Refused r) = refusedBy (refusalNumber r)
+
+abbrev pub isClosed : Book → ℕ → Bool
+isClosed b day = ltb day (b .today) && ltb day dayLimit
+
+-- The row is given for a closed day only: category over 9 is 2, a day not closed 9.
+unfoldable pub rowAnswer : Book → ℕ → ℕ → Given
+rowAnswer b day category =
+    cond (not (leb category categoryCount)) (refusedBy 2)
+    (cond (not (isClosed b day)) (refusedBy 9)
+    (figures (rowOf b day category)))

@@ -1,0 +1,29 @@
+-- Sums and tests that every definition of the book uses. Assumes nothing.
+use Prim.Native.Nat.{ℕ, zero, suc, _+_, min}
+use mathlib.Core.Bool.{Bool, true, false, _&&_}
+use mathlib.Core.List.{List, [], _∷_}
+use lib.Dec.{leb}
+use Rattle.book.specs.Limits.{largestStored}
+
+-- n where the test passes, and 0 where it fails
+abbrev pub only : Bool → ℕ → ℕ
+only true n = n
+only false n = zero
+
+abbrev pub within : ℕ → ℕ → ℕ → Bool
+within low high n = leb low n && leb n high
+
+-- a sum as the book stores it: it stops at the largest number of 64 bits
+abbrev pub capped : ℕ → ℕ
+capped n = min n largestStored
+
+module _ {A : Type 0} where
+  -- the sum of a weight over a list
+  abbrev pub total : (A → ℕ) → List A → ℕ
+  total w [] = zero
+  total w (x ∷ xs) = w x + total w xs
+
+  -- what holds of each element of a list
+  abbrev pub All : (A → Type 0) → List A → Type 0
+  All P [] = Unit
+  All P (x ∷ xs) = P x × All P xs

@@ -1,0 +1,174 @@
+// The figures of a day and category, what a call adds to them, and where they lie. Document 01, 'The six calls' and
+// 'A row'.
+ghost use mathlib.Core.Path.{_≡_};
+ghost use Prim.Native.Nat.{_+_, _-_, _*_, min};
+ghost use Rattle.book.specs.Sums.{only, capped};
+ghost use Rattle.book.specs.Figures.{nothing, none, partFigures, failFigures, addFigure, addCell};
+ghost use Rattle.book.specs.Placed.{Placed};
+use crate::sides::Sides;
+
+// The largest number of 64 bits, where a sum stops.
+const LARGEST: u64 = 18446744073709551615;
+
+// Business days.
+const DAYS: usize = 64;
+
+// Categories of a day.
+const CATEGORIES: usize = 9;
+
+// Cells, one for each day and category.
+pub const CELLS: usize = 576;
+
+// So many SIs, and their value.
+pub struct Figure {
+    pub number: u64,
+    pub value: u64,
+}
+
+const NOTHING: Figure = Figure {
+    number: 0,
+    value: 0,
+};
+
+// Securities and cash are fails by side, and the ISD value is that of the fails counted on their own ISD.
+pub struct Cell {
+    pub settled: Figure,
+    pub securities: Figure,
+    pub cash: Figure,
+    pub isd_value: u64,
+}
+
+// A sum as the book stores it.
+pub fn capped_sum(a: u64, b: u64) -> u64
+    ensures { λ r. ⌜ r ≡ capped (a + b) ⌝ }
+{
+    if a <= LARGEST - b { a + b } else { LARGEST }
+}
+
+// The value of two SIs, each worth `value`.
+fn twice(value: u64) -> u64
+    ensures { λ r. ⌜ r ≡ capped (2 * value) ⌝ }
+{
+    capped_sum(value, value)
+}
+
+// `n` where the test passes, and 0 where it fails.
+fn only_if(test: bool, n: u64) -> u64
+    ensures { λ r. ⌜ r ≡ only test n ⌝ }
+{
+    if test { n } else { 0 }
+}
+
+impl Figure {
+    // The sum of two figures.
+    pub fn add(self, other: Figure) -> Figure
+        ensures { λ r. ⌜ r ≡ addFigure self other ⌝ }
+    {
+        Figure {
+            number: capped_sum(self.number, other.number),
+            value: capped_sum(self.value, other.value),
+        }
+    }
+}
+
+impl Cell {
+    // The cell of a day and category before anything is counted there.
+    pub fn none() -> Cell
+        ensures { λ r. ⌜ r ≡ none ⌝ }
+    {
+        Cell {
+            settled: NOTHING,
+            securities: NOTHING,
+            cash: NOTHING,
+            isd_value: 0,
+        }
+    }
+
+    // The sum of two cells, figure by figure.
+    pub fn add(self, other: Cell) -> Cell
+        ensures { λ r. ⌜ r ≡ addCell self other ⌝ }
+    {
+        Cell {
+            settled: self.settled.add(other.settled),
+            securities: self.securities.add(other.securities),
+            cash: self.cash.add(other.cash),
+            isd_value: capped_sum(self.isd_value, other.isd_value),
+        }
+    }
+
+    // Settle: today gains twice the part as settled value, and 2 SIs settled if it is the pair's first part today.
+    pub fn add_part(self, first: bool, part: u64) -> Cell
+        ensures { λ r. ⌜ r ≡ addCell self (partFigures first part) ⌝ }
+    {
+        let settled = Figure {
+            number: only_if(first, 2),
+            value: twice(part),
+        };
+        self.add(Cell {
+            settled: settled,
+            securities: NOTHING,
+            cash: NOTHING,
+            isd_value: 0,
+        })
+    }
+
+    // A fail whose two SIs are worth `value` each, by their sides.
+    pub fn add_fail(self, to: Sides, value: u64, on_isd: bool) -> Cell
+        ensures { λ r. ⌜ r ≡ addCell self (failFigures to value «on_isd») ⌝ }
+    {
+        let one = Figure {
+            number: 1,
+            value: value,
+        };
+        let both = Figure {
+            number: 2,
+            value: twice(value),
+        };
+        match to {
+            Sides::Securities => self.add_sides(both, NOTHING, value, on_isd),
+            Sides::Cash => self.add_sides(NOTHING, both, value, on_isd),
+            Sides::OneEach => self.add_sides(one, one, value, on_isd),
+        }
+    }
+
+    // What a fail adds to each side, and to the ISD value where the fail is counted on its own ISD.
+    fn add_sides(self, securities: Figure, cash: Figure, value: u64, on_isd: bool) -> Cell
+        ensures { λ r. ⌜ r ≡ addCell self (record {
+          settled = nothing;
+          securities = securities;
+          cash = cash;
+          «isd_value» = only «on_isd» (2 * value);
+        }) ⌝ }
+    {
+        self.add(Cell {
+            settled: NOTHING,
+            securities: securities,
+            cash: cash,
+            isd_value: only_if(on_isd, twice(value)),
+        })
+    }
+}
+
+// The smaller of two numbers.
+fn least(a: usize, b: usize) -> usize
+    ensures { λ r. ⌜ r ≡ min a b ⌝ }
+{
+    if a <= b { a } else { b }
+}
+
+// One less, and 0 for 0.
+fn one_less(n: usize) -> usize
+    ensures { λ r. ⌜ r ≡ n - 1 ⌝ }
+{
+    if n == 0 { 0 } else { n - 1 }
+}
+
+// Where the cell of a day and category lies. Those out of their ranges are cut down first, so that no sum on the way
+// passes 64 bits.
+pub fn place(day: u64, category: u64) -> usize
+    ensures { λ r. ⌜ Placed day category r ⌝ }
+{
+    let days = least(day as usize, DAYS);
+    let categories = least(one_less(category as usize), CELLS);
+    least(CATEGORIES * days + categories, CELLS - 1)
+}

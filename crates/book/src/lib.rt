@@ -1,0 +1,8 @@
+// The settlement fails book: matched pairs of settlement instructions, followed through 64 business days.
+// Document 01 gives the rules; its definitions stand in specs/, and each contract is an equation with one of them.
+pub mod pairs; // a pair: its values, holds, lack and rest
+pub mod calls; // the six calls, and what comes back
+pub mod sides; // to which side a failing pair's two SIs go
+pub mod cells; // the figures of a day and category
+pub mod rows; // a row, as it is given
+pub mod book; // the book itself

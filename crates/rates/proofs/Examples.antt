@@ -1,0 +1,38 @@
+-- Worked rates and durations, by computation. Document 01, 'A report', 'The calls as text' and its edges P10 and P11.
+-- Assumes nothing.
+use Prim.Native.Nat.{ℕ}
+use mathlib.Core.Path.{_≡_, refl}
+use mathlib.Core.List.{List, [], _∷_, map}
+use Rattle.rates.specs.Rate.{Duration, rate, duration}
+
+-- a rate or a duration asked for, and what comes out
+pub data Example : Type 0 where
+  rateOf : ℕ → ℕ → ℕ → Example
+  durationOf : ℕ → ℕ → Duration → Example
+
+-- the same with what the definition gives
+abbrev pub computed : Example → Example
+computed (rateOf fails total given) = rateOf fails total (rate fails total)
+computed (durationOf fails isd given) = durationOf fails isd (duration fails isd)
+
+-- the examples, as document 01 or a calculation by hand has them
+abbrev pub examples : List Example
+examples =
+    -- P10
+    rateOf 3 8 3750
+    -- P11
+    ∷ rateOf 7 21 3333
+    -- 312.5, half up
+    ∷ rateOf 1 32 313
+    ∷ rateOf 0 0 0
+    -- the report over the table's days 0 to 3
+    ∷ rateOf 10 18 5556
+    ∷ rateOf 38000 66000 5758
+    ∷ durationOf 38000 18000 (Duration.Hundredths 211)
+    ∷ durationOf 38000 0 Duration.Absent
+    ∷ []
+
+-- The definition gives each of them.
+pub examples-hold : map computed examples ≡ examples
+unfolding rate duration
+examples-hold = refl
