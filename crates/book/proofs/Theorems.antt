@@ -11,6 +11,7 @@ pub mod Lives
 pub mod Places
 pub mod Mirror
 pub mod Run
+pub mod Ties
 pub mod Journal
 pub mod Cells
 pub mod Bounds

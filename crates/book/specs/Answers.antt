@@ -1,10 +1,10 @@
 -- What comes back from each of the six calls. Document 01, 'Numbers given back'. Assumes nothing.
 use Prim.Native.Nat.{ℕ, zero, suc}
-use mathlib.Core.Bool.{Bool, true, false, cond, not, _&&_, _||_}
+use mathlib.Core.Bool.{Bool, true, false, not, _&&_, _||_}
 use lib.Dec.{leb, ltb, eqb}
 use Rattle.book.specs.Limits.{dayLimit, openLimit}
 use Rattle.book.specs.Sums.{within}
-use Rattle.book.specs.Pairs.{Entry, Pair, isOpen, anyHold, inRange}
+use Rattle.book.specs.Pairs.{Pair, isOpen, anyHold, inRange}
 pub use Rattle.book.specs.declared.calls.Call.{Call}
 pub use Rattle.book.specs.declared.calls.Refusal.{Refusal}
 pub use Rattle.book.specs.declared.calls.Answer.{Answer}
@@ -50,39 +50,68 @@ refused false n later = later
 abbrev pub accepted : ℕ
 accepted = 0
 
--- any of the six, today = 64
-abbrev pub finished : View → Bool
-finished v = leb dayLimit (v .today)
+-- ---- when a number applies
 
--- The lowest number that applies is returned, and none without its condition.
+-- 1: any of the six, today = 64
+abbrev pub isFinished : View → Bool
+isFinished v = leb dayLimit (v .today)
+
+-- 3: enter, id not above all accepted ids
+abbrev pub isSpent : View → ℕ → Bool
+isSpent v id = leb id (v .highest)
+
+-- 4: enter, 1,024 open
+abbrev pub isFull : View → Bool
+isFull v = leb openLimit (v .count)
+
+-- 5: hold, lack, settle, cancel: id not open
+abbrev pub notOpen : View → ℕ → Bool
+notOpen v id = not (isOpen (v .pair id))
+
+-- 6: settle, today before ISD
+abbrev pub notDue : View → ℕ → Bool
+notDue v id = ltb (v .today) (v .pair id .terms .isd)
+
+-- 7: settle, any hold on
+abbrev pub onHold : View → ℕ → Bool
+onHold v id = anyHold (v .pair id .holds)
+
+-- 8: settle, part 0 or above the rest
+abbrev pub wrongPart : View → ℕ → ℕ → Bool
+wrongPart v id part = eqb part 0 || ltb (v .pair id .rest) part
+
+-- ---- what comes back
+
+-- The lowest number that applies is returned, and none without its condition. Number 2 is a value out of its range in
+-- enter, hold's side or on/off, or lack's value.
 unfoldable pub answer : View → Call → ℕ
 answer v (Call.Enter e) =
-    refused (finished v) 1
+    refused (isFinished v) 1
     (refused (not (inRange e)) 2
-    (refused (leb (e .id) (v .highest)) 3
-    (refused (leb openLimit (v .count)) 4
+    (refused (isSpent v (e .id)) 3
+    (refused (isFull v) 4
     accepted)))
 answer v (Call.Hold id side on) =
-    refused (finished v) 1
+    refused (isFinished v) 1
     (refused (not (within 1 2 side && leb on 1)) 2
-    (refused (not (isOpen (v .pair id))) 5
+    (refused (notOpen v id) 5
     accepted))
 answer v (Call.Lack id lack) =
-    refused (finished v) 1
+    refused (isFinished v) 1
     (refused (not (leb lack 2)) 2
-    (refused (not (isOpen (v .pair id))) 5
+    (refused (notOpen v id) 5
     accepted))
 answer v (Call.Settle id part) =
-    refused (finished v) 1
-    (refused (not (isOpen (v .pair id))) 5
-    (refused (ltb (v .today) (v .pair id .terms .isd)) 6
-    (refused (anyHold (v .pair id .holds)) 7
-    (refused (eqb part 0 || ltb (v .pair id .rest) part) 8
+    refused (isFinished v) 1
+    (refused (notOpen v id) 5
+    (refused (notDue v id) 6
+    (refused (onHold v id) 7
+    (refused (wrongPart v id part) 8
     accepted))))
 answer v (Call.Cancel id) =
-    refused (finished v) 1
-    (refused (not (isOpen (v .pair id))) 5
+    refused (isFinished v) 1
+    (refused (notOpen v id) 5
     accepted)
 answer v Call.Close =
-    refused (finished v) 1
+    refused (isFinished v) 1
     accepted

@@ -1,26 +1,27 @@
 -- The book, and what it holds after each of the six calls. Document 01, 'The six calls' and 'Form'. Assumes nothing.
 use Prim.Native.Nat.{ℕ, zero, suc}
-use mathlib.Core.Bool.{Bool, true, false, cond, not, _&&_}
+use mathlib.Core.Bool.{Bool, cond, not, _&&_}
 use mathlib.Core.List.{List, [], _∷_}
 use lib.Dec.{eqb}
 use lib.ListN.{getD, set, replicate}
 use Rattle.book.specs.Limits.{cellCount, openLimit}
 use Rattle.book.specs.Sums.{only, total}
 use Rattle.book.specs.Pairs.{Pair, blank, isOpen, terms, entered, withHold, withLack, withPart, ended}
-use Rattle.book.specs.Figures.{Cell, none, Posting, latePostings, partPosting, failPostings, post, postAll}
+use Rattle.book.specs.Figures.{none, Posting, latePostings, partPosting, failPostings, post, postAll}
 use Rattle.book.specs.Answers.{Call, View, answer, isAccepted}
 pub use Rattle.book.specs.declared.book.Book.{Book}
 
 -- ---- the places
 
--- n places from j on
-abbrev pub placesFrom : ℕ → ℕ → List Pair → List Pair
-placesFrom zero j pairs = []
-placesFrom (suc n) j pairs = getD pairs j blank ∷ placesFrom n (suc j) pairs
+-- n places, the pairs of a list and then blank ones
+abbrev pub placesOf : ℕ → List Pair → List Pair
+placesOf zero pairs = []
+placesOf (suc n) [] = blank ∷ placesOf n []
+placesOf (suc n) (p ∷ pairs) = p ∷ placesOf n pairs
 
--- the pairs of the book's 1,024 places, in order
+-- the pairs of the book's 1,024 places, in order; an array has just as many
 unfoldable pub places : List Pair → List Pair
-places pairs = placesFrom openLimit 0 pairs
+places pairs = placesOf openLimit pairs
 
 -- the first place whose pair passes the test, or the count of places
 unfoldable pub firstPlace : (Pair → Bool) → List Pair → ℕ

@@ -1,10 +1,10 @@
 -- The book counted from the calls: each pair's own life, replayed from the accepted calls, and the statements that the
 -- book's answers and figures are those of its pairs' lives. Assumes nothing.
-use Prim.Native.Nat.{ℕ, zero, suc, _+_, _≤_, _<_, max}
+use Prim.Native.Nat.{ℕ, zero, _+_, _≤_, _<_, max}
 use mathlib.Core.Path.{_≡_}
-use mathlib.Core.Bool.{Bool, true, false, cond, not, _&&_}
+use mathlib.Core.Bool.{Bool, cond}
 use mathlib.Core.List.{List, [], _∷_, _++_}
-use lib.Dec.{leb, eqb}
+use lib.Dec.{eqb}
 use Rattle.book.specs.Limits.{dayLimit}
 use Rattle.book.specs.Sums.{only, total, All}
 use Rattle.book.specs.Pairs.{Entry, Terms, Pair, terms, entered, blank, isOpen, withHold, withLack, withPart, ended}
@@ -12,7 +12,7 @@ use Rattle.book.specs.Figures.{Cell, Posting, latePostings, partPosting,
 use Rattle.book.specs.Answers.{Call, View, answer, isAccepted}
 use Rattle.book.specs.Calls.{Book, answerOf, postings, after, freshBook}
 use Rattle.book.specs.Rows.{cellOf}
-use Rattle.book.specs.History.{Measure, number, value, dayOf, pairs, parts, restOf, cancels, counts, sumOver}
+use Rattle.book.specs.History.{Measure, dayOf, pairs, parts, restOf, cancels, counts, sumOver}
 use Rattle.book.specs.Balance.{bookAfter, acceptedOf, inMeasure}
 
 -- ---- one pair's life

@@ -2,7 +2,7 @@
 -- number of 64 bits, also when added up over all days. Assumes nothing.
 use Prim.Native.Nat.{ℕ, zero, suc, _+_, _*_, _≤_, _<_}
 use mathlib.Core.Path.{_≡_}
-use mathlib.Core.List.{List, [], _∷_}
+use mathlib.Core.List.{List}
 use Rattle.book.specs.Limits.{dayLimit, largestStored}
 use Rattle.book.specs.Answers.{Call}
 use Rattle.book.specs.Calls.{Book}

@@ -1,7 +1,7 @@
 -- The figures of a day and category, the postings that they are the sum of, and how the cells take a posting.
 -- Document 01, 'The six calls' and 'A row'. Assumes nothing.
 use Prim.Native.Nat.{ℕ, zero, suc, _+_, _-_, _*_, min}
-use mathlib.Core.Bool.{Bool, true, false, cond, not, _&&_}
+use mathlib.Core.Bool.{Bool, cond, not, _&&_}
 use mathlib.Core.List.{List, [], _∷_}
 use lib.Dec.{leb, eqb}
 use lib.ListN.{getD, set}

@@ -12,3 +12,5 @@ pub mod History
 pub mod Balance
 pub mod Counted
 pub mod Exact
+pub mod Edges
+pub mod Worked

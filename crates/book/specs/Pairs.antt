@@ -1,7 +1,7 @@
 -- A pair and what a call changes of it. Document 01, 'The pair' and 'The six calls'. Assumes nothing.
-use Prim.Native.Nat.{ℕ, zero, suc, _-_}
+use Prim.Native.Nat.{ℕ, suc, _-_}
 use mathlib.Core.Bool.{Bool, true, false, cond, _&&_, _||_}
-use lib.Dec.{leb, ltb, eqb}
+use lib.Dec.{ltb, eqb}
 use Rattle.book.specs.Limits.{dayLimit, categoryCount, largestId, largestAmount}
 use Rattle.book.specs.Sums.{within}
 pub use Rattle.book.specs.declared.pairs.Kind.{Kind}

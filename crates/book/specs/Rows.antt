@@ -1,10 +1,10 @@
 -- A row, as it is given for a closed day. Document 01, 'A row' and 'Numbers given back'. Assumes nothing.
-use Prim.Native.Nat.{ℕ, zero, suc, _+_}
-use mathlib.Core.Bool.{Bool, true, false, cond, not, _&&_}
-use mathlib.Core.List.{List, [], _∷_}
+use Prim.Native.Nat.{ℕ, zero, suc}
+use mathlib.Core.Bool.{Bool, cond, not, _&&_}
+use mathlib.Core.List.{List}
 use lib.Dec.{leb, ltb}
 use Rattle.book.specs.Limits.{dayLimit, categoryCount}
-use Rattle.book.specs.Figures.{Figure, Cell, none, cellAt, addFigure, addCell}
+use Rattle.book.specs.Figures.{Cell, none, cellAt, addFigure, addCell}
 use Rattle.book.specs.Answers.{refusalNumber}
 use Rattle.book.specs.Calls.{Book}
 pub use Rattle.book.specs.declared.rows.Row.{Row}

@@ -1,6 +1,6 @@
 -- To which side the two SIs of a failing pair go. Document 01, 'The six calls'. Assumes nothing.
 use Prim.Native.Nat.{ℕ}
-use mathlib.Core.Bool.{Bool, true, false, cond, not, _&&_, _||_}
+use mathlib.Core.Bool.{Bool, cond, _&&_, _||_}
 use mathlib.Core.List.{List, [], _∷_}
 use lib.Dec.{eqb}
 use Rattle.book.specs.Pairs.{Kind, Side, Holds, Lack, kindNumber, sideNumber, lackNumber, byDeliverer, byReceiver, anyHold}

@@ -24,25 +24,22 @@ pub fn at_close(kind: Kind, holds: Holds, lack: Lack) -> Sides
             Holds::Both => Sides::OneEach,
             Holds::Deliverer => Sides::Securities,
             Holds::Receiver => Sides::Cash,
-            Holds::Neither => by_lack(lack),
+            Holds::Neither => match lack {
+                Lack::Nothing => Sides::Securities,
+                Lack::Securities => Sides::Securities,
+                Lack::Cash => Sides::Cash,
+            },
         },
         Kind::WithPayment => match holds {
             Holds::Both => Sides::OneEach,
             Holds::Deliverer => Sides::OneEach,
             Holds::Receiver => Sides::OneEach,
-            Holds::Neither => by_lack(lack),
+            Holds::Neither => match lack {
+                Lack::Nothing => Sides::Securities,
+                Lack::Securities => Sides::Securities,
+                Lack::Cash => Sides::Cash,
+            },
         },
-    }
-}
-
-// Rules e and f, for a pair against or with payment that has no hold.
-fn by_lack(lack: Lack) -> Sides
-    ensures { λ r. ⌜ r ≡ sidesAtClose Kind.AgainstPayment Holds.Neither lack ⌝ }
-{
-    match lack {
-        Lack::Nothing => Sides::Securities,
-        Lack::Securities => Sides::Securities,
-        Lack::Cash => Sides::Cash,
     }
 }
 

@@ -1,14 +1,14 @@
 -- What it says that a call is accepted: none of its refusals applies. Assumes nothing.
-use Prim.Native.Nat.{ℕ, zero, suc, _+_, _≤_, _<_}
+use Prim.Native.Nat.{ℕ, suc, _≤_, _<_}
 use native.Mathlib.Omega.{arith}
 use mathlib.Core.Path.{_≡_, refl}
-use mathlib.Core.Bool.{Bool, true, false, not, _&&_, _||_}
+use mathlib.Core.Bool.{Bool, true, false, not, _&&_}
 use lib.Dec.{leb, ltb, eqb}
-use borrow.Author.Tests.{leb-true, leb-false, ltb-true, ltb-false, eqb-false, not-false}
-use Rattle.book.specs.Limits.{dayLimit, openLimit, largestId, largestAmount}
+use borrow.Author.Tests.{leb-true, ltb-true, eqb-false, not-false}
+use Rattle.book.specs.Limits.{dayLimit, categoryCount, openLimit, largestId, largestAmount}
 use Rattle.book.specs.Sums.{within}
-use Rattle.book.specs.Pairs.{Entry, inRange, isOpen, anyHold}
-use Rattle.book.specs.Answers.{Call, View, answer, refused, finished}
+use Rattle.book.specs.Pairs.{Entry, inRange, isOpen}
+use Rattle.book.specs.Answers.{Call, View, refused, isFinished, isSpent, isFull, notOpen, notDue, onHold, wrongPart, answer}
 use Rattle.book.proofs.Theorems.Sums.{tests, and-true, or-false}
 
 -- each value of an enter is in its range
@@ -44,78 +44,71 @@ Allowed v (Call.Settle id part) = SettleAllowed v id part
 Allowed v (Call.Cancel id) = OpenAllowed v id
 Allowed v Call.Close = v .today < dayLimit
 
--- the condition of the first number failed, and none of the later ones came back
+-- where no number comes back, the first condition fails and no later number comes back
 not-refused : (t : Bool) (n later : ℕ) → refused t (suc n) later ≡ 0 → (t ≡ false) × (later ≡ 0)
 not-refused true n later h = absurd (omega arith)
 not-refused false n later h = (refl, h)
 
+-- a value within its range is between the two ends
 from-within : (low high n : ℕ) → within low high n ≡ true → (low ≤ n) × (n ≤ high)
 from-within low high n h =
     let b = and-true (leb low n) (leb n high) h in (leb-true low n (b .0), leb-true n high (b .1))
 
 in-ranges : (e : Entry) → inRange e ≡ true → Ranges e
 in-ranges e h =
-    let i = within 1 largestId (e .id) in
-    let k = within 1 4 (e .kind) in
-    let c = within 1 9 (e .category) in
-    let d = ltb (e .isd) dayLimit in
-    let s = within 1 2 (e .side) in
-    let a = within 1 largestAmount (e .amount) in
-    let r5 = and-true (i && k && c && d && s) a h in
-    let r4 = and-true (i && k && c && d) s (r5 .0) in
-    let r3 = and-true (i && k && c) d (r4 .0) in
-    let r2 = and-true (i && k) c (r3 .0) in
-    let r1 = and-true i k (r2 .0) in
+    let r5 = and-true _ (within 1 largestAmount (e .amount)) h in
+    let r4 = and-true _ (within 1 2 (e .side)) (r5 .0) in
+    let r3 = and-true _ (ltb (e .isd) dayLimit) (r4 .0) in
+    let r2 = and-true _ (within 1 categoryCount (e .category)) (r3 .0) in
+    let r1 = and-true _ (within 1 4 (e .kind)) (r2 .0) in
     record {
       id = from-within 1 largestId (e .id) (r1 .0);
-      category = from-within 1 9 (e .category) (r2 .1);
+      category = from-within 1 categoryCount (e .category) (r2 .1);
       isd = ltb-true (e .isd) dayLimit (r3 .1);
       amount = from-within 1 largestAmount (e .amount) (r5 .1);
     }
 
-running : (v : View) → finished v ≡ false → v .today < dayLimit
-running v h = leb-false dayLimit (v .today) h
-
+-- None of its refusals applies to an accepted call.
 pub allowed : (v : View) (c : Call) → answer v c ≡ 0 → Allowed v c
 unfolding answer
 allowed v (Call.Enter e) h =
-    let a = not-refused (finished v) 0 _ h in
+    let a = not-refused (isFinished v) 0 _ h in
     let b = not-refused (not (inRange e)) 1 _ (a .1) in
-    let c = not-refused (leb (e .id) (v .highest)) 2 _ (b .1) in
-    let d = not-refused (leb openLimit (v .count)) 3 _ (c .1) in
+    let c = not-refused (isSpent v (e .id)) 2 _ (b .1) in
+    let d = not-refused (isFull v) 3 _ (c .1) in
     record {
-      running = running v (a .0);
+      running = omega (arith, tests);
       ranges = in-ranges e (not-false (inRange e) (b .0));
-      above = leb-false (e .id) (v .highest) (c .0);
-      room = leb-false openLimit (v .count) (d .0);
+      above = omega (arith, tests);
+      room = omega (arith, tests);
     }
 allowed v (Call.Hold id side on) h =
-    let a = not-refused (finished v) 0 _ h in
+    let a = not-refused (isFinished v) 0 _ h in
     let b = not-refused (not (within 1 2 side && leb on 1)) 1 _ (a .1) in
-    let c = not-refused (not (isOpen (v .pair id))) 4 _ (b .1) in
-    record { running = running v (a .0); isOpen = not-false (isOpen (v .pair id)) (c .0) }
+    let c = not-refused (notOpen v id) 4 _ (b .1) in
+    record { running = omega (arith, tests); isOpen = not-false (isOpen (v .pair id)) (c .0) }
 allowed v (Call.Lack id lack) h =
-    let a = not-refused (finished v) 0 _ h in
+    let a = not-refused (isFinished v) 0 _ h in
     let b = not-refused (not (leb lack 2)) 1 _ (a .1) in
-    let c = not-refused (not (isOpen (v .pair id))) 4 _ (b .1) in
-    record { running = running v (a .0); isOpen = not-false (isOpen (v .pair id)) (c .0) }
+    let c = not-refused (notOpen v id) 4 _ (b .1) in
+    record { running = omega (arith, tests); isOpen = not-false (isOpen (v .pair id)) (c .0) }
 allowed v (Call.Settle id part) h =
-    let a = not-refused (finished v) 0 _ h in
-    let b = not-refused (not (isOpen (v .pair id))) 4 _ (a .1) in
-    let c = not-refused (ltb (v .today) (v .pair id .terms .isd)) 5 _ (b .1) in
-    let d = not-refused (anyHold (v .pair id .holds)) 6 _ (c .1) in
-    let e = not-refused (eqb part 0 || ltb (v .pair id .rest) part) 7 _ (d .1) in
+    let a = not-refused (isFinished v) 0 _ h in
+    let b = not-refused (notOpen v id) 4 _ (a .1) in
+    let c = not-refused (notDue v id) 5 _ (b .1) in
+    let d = not-refused (onHold v id) 6 _ (c .1) in
+    let e = not-refused (wrongPart v id part) 7 _ (d .1) in
     let f = or-false (eqb part 0) (ltb (v .pair id .rest) part) (e .0) in
     let z = eqb-false part 0 (f .0) in
     record {
-      running = running v (a .0);
+      running = omega (arith, tests);
       isOpen = not-false (isOpen (v .pair id)) (b .0);
-      due = ltb-false (v .today) (v .pair id .terms .isd) (c .0);
+      due = omega (arith, tests);
       some = omega arith;
-      most = ltb-false (v .pair id .rest) part (f .1);
+      most = omega (arith, tests);
     }
 allowed v (Call.Cancel id) h =
-    let a = not-refused (finished v) 0 _ h in
-    let b = not-refused (not (isOpen (v .pair id))) 4 _ (a .1) in
-    record { running = running v (a .0); isOpen = not-false (isOpen (v .pair id)) (b .0) }
-allowed v Call.Close h = running v (not-refused (finished v) 0 _ h .0)
+    let a = not-refused (isFinished v) 0 _ h in
+    let b = not-refused (notOpen v id) 4 _ (a .1) in
+    record { running = omega (arith, tests); isOpen = not-false (isOpen (v .pair id)) (b .0) }
+allowed v Call.Close h = let a = not-refused (isFinished v) 0 _ h in omega (arith, tests)

@@ -1,26 +1,25 @@
 -- How much the pairs of a proper list of calls can give on a day: at most 65,535 pairs are accepted, and each gives at
 -- most its two SIs, and two more in number. Assumes nothing.
-use Prim.Native.Nat.{ℕ, zero, suc, _+_, _-_, _*_, _≤_, _<_, max}
+use Prim.Native.Nat.{ℕ, zero, suc, _+_, _-_, _*_, _≤_}
 use native.Mathlib.Nat.{le-refl, suc-mul}
 use native.Mathlib.Omega.{arith}
-use mathlib.Core.Path.{_≡_, refl, sym, ap, _∙_, subst}
-use mathlib.Core.Bool.{Bool, true, false, cond, not, _&&_}
+use mathlib.Core.Bool.{Bool, true, false, cond}
 use mathlib.Core.List.{List, [], _∷_, _++_}
 use lib.ListN.{length}
-use lib.Dec.{leb, eqb}
+use lib.Dec.{eqb}
 use Rattle.book.specs.Limits.{largestId}
 use Rattle.book.specs.Sums.{only, total, All}
 use Rattle.book.specs.Pairs.{Entry, Terms, Pair, terms}
 use Rattle.book.specs.SideOfFail.{Sides, sidesAtClose, sidesWhenLate}
-use Rattle.book.specs.Figures.{Cell, Posting, failFigures, partPosting, lateFrom, failing, failPosting, failPostings}
-use Rattle.book.specs.Answers.{Call, View, answer}
-use Rattle.book.specs.History.{Measure, number, value, dayOf, pairs, twoSIs, twoMore, sumOver}
-use Rattle.book.specs.Counted.{replayed, posts, life, postedOn, counted, highestId, viewOfCalls, Column, column, isdValue}
+use Rattle.book.specs.Figures.{Posting, failFigures, partPosting, lateFrom, failing, failPosting, failPostings}
+use Rattle.book.specs.Answers.{Call}
+use Rattle.book.specs.History.{Measure, number, value, dayOf, pairs, twoSIs, twoMore}
+use Rattle.book.specs.Counted.{replayed, posts, life, counted, highestId, viewOfCalls, column, isdValue}
 use Rattle.book.specs.Exact.{most}
-use Rattle.book.proofs.Theorems.Sums.{tests, only-le, total-le, total-append, total-all-le, all-map}
+use Rattle.book.proofs.Theorems.Sums.{total-le, total-all-le}
 use Rattle.book.proofs.Theorems.Allowed.{Ranges, EnterAllowed, Allowed, allowed}
 use Rattle.book.proofs.Theorems.Proper.{Proper}
-use Rattle.book.proofs.Theorems.Lived.{Lived, settledIn, failsIn}
+use Rattle.book.proofs.Theorems.Lived.{failsIn}
 
 -- ---- the accepted pairs
 

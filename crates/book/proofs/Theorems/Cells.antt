@@ -1,23 +1,23 @@
 -- An array of cells that takes postings stores in each figure what was posted to it, up to the cap. Assumes nothing.
-use Prim.Native.Nat.{ℕ, zero, suc, _+_, _-_, _*_, _≤_, _<_, min}
+use Prim.Native.Nat.{ℕ, zero, suc, _+_, _≤_, _<_}
 use native.Mathlib.Omega.{arith}
 use mathlib.Core.Path.{_≡_, refl, sym, ap, _∙_, subst}
 use mathlib.Core.Logic.{_≢_}
-use mathlib.Core.Bool.{Bool, true, false, cond, not, _&&_, _||_}
-use mathlib.Core.List.{List, [], _∷_, _++_}
+use mathlib.Core.Bool.{Bool, true, false, _&&_}
+use mathlib.Core.List.{List, [], _∷_}
 use lib.ListN.{length, getD, set, length-set}
 use lib.Seq.{getD-set-same, getD-set-other}
 use lib.Dec.{leb, ltb, eqb}
 use borrow.Author.Tests.{eqb-true, eqb-false, ne-eqb, le-leb, lt-ltb}
 use Rattle.book.specs.Limits.{dayLimit, cellCount}
 use Rattle.book.specs.Sums.{only, capped, total, All}
-use Rattle.book.specs.Pairs.{Entry, Terms}
+use Rattle.book.specs.Pairs.{Entry}
 use Rattle.book.specs.Figures.{Cell, none, Posting, place, cellAt, addCell, post, postAll}
 use Rattle.book.specs.Rows.{cellsFrom}
 use Rattle.book.specs.History.{number, value, counts, sumOver}
 use Rattle.book.specs.Counted.{Column, settled, securities, cash, isdValue, column, postedFor}
 use Rattle.book.specs.Exact.{sumFrom}
-use Rattle.book.proofs.Theorems.Sums.{tests, clash, total-add, total-none, total-all}
+use Rattle.book.proofs.Theorems.Sums.{tests, total-add, total-none, total-all}
 
 -- ---- one posting
 

@@ -4,32 +4,18 @@ use Prim.Native.Nat.{ℕ, zero, suc, _+_, _-_, _≤_, _<_, suc-le-suc}
 use native.Mathlib.Nat.{zero-lt-suc}
 use native.Mathlib.Omega.{arith}
 use mathlib.Core.Path.{_≡_, refl, sym, ap, _∙_, subst}
-use mathlib.Core.Bool.{Bool, true, false, cond, not, _&&_}
+use mathlib.Core.Bool.{Bool, true, false, cond}
 use mathlib.Core.List.{List, [], _∷_, _++_}
-use lib.ListN.{length, getD, replicate, length-replicate}
+use lib.ListN.{length, getD, length-replicate}
 use lib.Dec.{leb, eqb}
 use Rattle.book.specs.Limits.{dayLimit, cellCount}
-use Rattle.book.specs.Sums.{only, capped, total, All}
+use Rattle.book.specs.Sums.{only, capped, All}
 use Rattle.book.specs.Pairs.{Entry, Terms, Pair, blank, isOpen, terms}
-use Rattle.book.specs.Figures.{
-  Cell,
-  none,
-  Posting,
-  lateFrom,
-  latePostings,
-  partPosting,
-  failing,
-  failPosting,
-  failPostings,
-  place,
-  cellAt,
-  post,
-  postAll,
-}
-use Rattle.book.specs.Answers.{Call, View, answer, isAccepted}
-use Rattle.book.specs.Calls.{Book, places, pairOf, answerOf, postings, afterAccepted, after, freshBook}
+use Rattle.book.specs.Figures.{Cell, none, Posting, lateFrom, failing, failPosting, failPostings, place, cellAt, post, postAll}
+use Rattle.book.specs.Answers.{Call, isAccepted}
+use Rattle.book.specs.Calls.{Book, answerOf, postings, afterAccepted, after, freshBook}
 use Rattle.book.specs.Rows.{cellOf}
-use Rattle.book.specs.History.{Event, acceptedCalls, Measure, number, value, dayOf, pairs, parts, counts, sumOver}
+use Rattle.book.specs.History.{acceptedCalls, Measure, number, value, pairs, parts, counts}
 use Rattle.book.specs.Balance.{State, step, run, afterCalls, bookAfter, acceptedOf}
 use Rattle.book.specs.Counted.{
   replayed,
@@ -53,13 +39,13 @@ use Rattle.book.specs.Counted.{
   AmountsAreKept,
 }
 use Rattle.book.specs.Exact.{most, sumFrom}
-use Rattle.book.proofs.Theorems.Sums.{tests, and-true, only-le, total-add, total-append, total-le, all-map}
-use Rattle.book.proofs.Theorems.Allowed.{Ranges, Allowed, EnterAllowed, SettleAllowed, allowed}
+use Rattle.book.proofs.Theorems.Sums.{and-true, only-le, total-add, total-append, total-le, all-map}
+use Rattle.book.proofs.Theorems.Allowed.{Ranges, Allowed, allowed}
 use Rattle.book.proofs.Theorems.Proper.{Proper, open-replayed}
-use Rattle.book.proofs.Theorems.Lived.{Lived, settledIn, failsIn, settledBy, failsBy}
+use Rattle.book.proofs.Theorems.Lived.{Lived, settledIn, failsIn}
 use Rattle.book.proofs.Theorems.Lives.{lives}
 use Rattle.book.proofs.Theorems.Places.{places-all}
-use Rattle.book.proofs.Theorems.Mirror.{Once, once, Placed, pairIn, Found, found}
+use Rattle.book.proofs.Theorems.Mirror.{once, pairIn, found}
 use Rattle.book.proofs.Theorems.Run.{Mirrors, answer-same, Kept, kept-step, kept-fresh, kept, all-same, answers-counted}
 use Rattle.book.proofs.Theorems.Journal.{gained}
 use Rattle.book.proofs.Theorems.Cells.{InTime, cell-stores, cells-together, categories-all, column-none}

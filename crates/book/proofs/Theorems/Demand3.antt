@@ -3,18 +3,15 @@
 use Prim.Native.Nat.{ℕ, zero, suc, _+_, _*_, _≤_, _<_}
 use native.Mathlib.Nat.{suc-mul}
 use native.Mathlib.Omega.{arith}
-use mathlib.Core.Path.{_≡_, refl, sym, ap, _∙_}
-use mathlib.Core.Bool.{Bool, true, false, cond, _&&_, _||_}
+use mathlib.Core.Path.{_≡_, refl, sym, ap}
+use mathlib.Core.Bool.{Bool, true, false, _||_}
 use mathlib.Core.List.{List, [], _∷_}
-use lib.Dec.{T, lit<, ltb, eqb}
-use borrow.Author.Tests.{ltb-true}
+use lib.Dec.{T, lit<, eqb}
 use Rattle.book.specs.Limits.{dayLimit}
-use Rattle.book.specs.Sums.{only, capped, total, All}
+use Rattle.book.specs.Sums.{only}
 use Rattle.book.specs.Pairs.{Entry}
-use Rattle.book.specs.Figures.{Cell}
 use Rattle.book.specs.Answers.{Call}
-use Rattle.book.specs.Calls.{Book}
-use Rattle.book.specs.Rows.{cellOf, rowOf}
+use Rattle.book.specs.Rows.{rowOf}
 use Rattle.book.specs.History.{
   Measure,
   number,
@@ -28,8 +25,8 @@ use Rattle.book.specs.History.{
   counts,
   sumOver,
 }
-use Rattle.book.specs.Balance.{bookAfter, acceptedOf, inMeasure, failsOf, previousFails, Balances, Demand3}
-use Rattle.book.specs.Counted.{life, Column, settled, securities, cash, isdValue, column, postedOn, counted, viewOfCalls}
+use Rattle.book.specs.Balance.{bookAfter, acceptedOf, inMeasure, failsOf, previousFails, Demand3}
+use Rattle.book.specs.Counted.{settled, securities, cash, isdValue, column, counted, viewOfCalls}
 use Rattle.book.specs.Exact.{most, sumFrom, totalOn, Exact, NoCapReached}
 use Rattle.book.proofs.Theorems.Sums.{tests, clash, only-zero, total-add, total-none, total-all}
 use Rattle.book.proofs.Theorems.Allowed.{allowed}
@@ -38,7 +35,7 @@ use Rattle.book.proofs.Theorems.Lived.{Lived, settledIn, failsIn, settl
 use Rattle.book.proofs.Theorems.Lives.{lives}
 use Rattle.book.proofs.Theorems.Run.{kept}
 use Rattle.book.proofs.Theorems.Bounds.{isd-in-fails}
-use Rattle.book.proofs.Theorems.Counting.{allIn, counted-add, counted-most, rows-lives, categories-sum}
+use Rattle.book.proofs.Theorems.Counting.{counted-add, counted-most, rows-lives, categories-sum}
 
 -- ---- the days of a proper list
 

@@ -1,24 +1,24 @@
 -- What an accepted call posts, over any selection of pairs, is what it adds to the pairs' lives. No array of figures
 -- occurs here. Assumes nothing.
-use Prim.Native.Nat.{ℕ, zero, suc, _+_, _-_, _≤_, _<_}
+use Prim.Native.Nat.{ℕ, zero, suc, _+_, _-_}
 use native.Mathlib.Omega.{arith}
 use mathlib.Core.Path.{_≡_, refl, sym, ap, ap₂, _∙_}
-use mathlib.Core.Bool.{Bool, true, false, cond, not, _&&_}
+use mathlib.Core.Bool.{Bool, true, false, cond}
 use mathlib.Core.List.{List, [], _∷_, _++_}
-use lib.Dec.{leb, eqb}
+use lib.Dec.{eqb}
 use borrow.Author.Tests.{eq-eqb}
 use Rattle.book.specs.Sums.{only, total, All}
 use Rattle.book.specs.Pairs.{Entry, Terms, Pair, isOpen, terms}
 use Rattle.book.specs.Figures.{Cell, Posting, lateFrom, latePostings, partPosting, failing, failPosting, failPostings}
-use Rattle.book.specs.Answers.{Call, View, answer}
-use Rattle.book.specs.Calls.{Book, places, postings, pairOf}
+use Rattle.book.specs.Answers.{Call}
+use Rattle.book.specs.Calls.{Book, postings}
 use Rattle.book.specs.History.{dayOf, pairs, sumOver}
 use Rattle.book.specs.Counted.{replayed, posts, life, postedOn, postedFor, counted, viewOfCalls}
-use Rattle.book.proofs.Theorems.Sums.{tests, clash, only-and, only-zero, total-ext, total-add, total-none, total-append, total-all}
-use Rattle.book.proofs.Theorems.Allowed.{Allowed, EnterAllowed, SettleAllowed}
+use Rattle.book.proofs.Theorems.Sums.{only-zero, total-ext, total-add, total-none, total-append, total-all}
+use Rattle.book.proofs.Theorems.Allowed.{Allowed}
 use Rattle.book.proofs.Theorems.Proper.{Proper, open-replayed, Unused, unused}
 use Rattle.book.proofs.Theorems.Places.{places-all}
-use Rattle.book.proofs.Theorems.Mirror.{Once, once, Placed, OfOpen, pairIn, Found, found}
+use Rattle.book.proofs.Theorems.Mirror.{Once, once, Placed, OfOpen, found}
 use Rattle.book.proofs.Theorems.Run.{Mirrors}
 
 -- the life of a pair that is entered begins with its late days

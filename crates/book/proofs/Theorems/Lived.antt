@@ -3,11 +3,11 @@
 -- open. The definitions alone. Assumes nothing.
 use Prim.Native.Nat.{ℕ, zero, suc, _+_, _≤_, _<_}
 use mathlib.Core.Path.{_≡_}
-use mathlib.Core.List.{List, [], _∷_}
+use mathlib.Core.List.{List}
 use Rattle.book.specs.Pairs.{Entry, terms}
 use Rattle.book.specs.Figures.{Cell}
 use Rattle.book.specs.Answers.{Call}
-use Rattle.book.specs.History.{Measure, number, value, dayOf, parts, twoSIs, twoMore, dueOf, cancelledOf, partSettledOf}
+use Rattle.book.specs.History.{Measure, dayOf, parts, twoSIs, twoMore, dueOf, cancelledOf, partSettledOf}
 use Rattle.book.specs.Balance.{inMeasure}
 use Rattle.book.specs.Counted.{replayed, life, postedOn, restAtCancel}
 

@@ -1,40 +1,24 @@
 -- The book mirrors the accepted calls: its places hold the open pairs as they are replayed from the calls, and so its
 -- answers are those that the calls give. Assumes nothing.
-use Prim.Native.Nat.{ℕ, zero, suc, _+_, _-_, _≤_, _<_, max}
-use native.Mathlib.Nat.{le-refl}
+use Prim.Native.Nat.{ℕ, _+_, _-_, _≤_, _<_}
 use native.Mathlib.Omega.{arith}
-use mathlib.Core.Path.{_≡_, refl, sym, ap, _∙_, subst, fun-ext}
-use mathlib.Core.Bool.{Bool, true, false, cond, not, _&&_, _||_}
+use mathlib.Core.Path.{_≡_, refl, sym, ap, _∙_, subst}
+use mathlib.Core.Bool.{Bool, true, false, cond}
 use mathlib.Core.List.{List, [], _∷_}
-use lib.ListN.{length, getD, set, replicate, length-set, length-replicate, List·getD-eq-default}
-use lib.Dec.{leb, ltb, eqb}
-use borrow.Author.Tests.{eqb-true, eqb-false, ne-eqb, eq-eqb, ltb-true, ltb-false, lt-ltb, le-ltb, not-true}
+use lib.ListN.{length, getD, set, length-set, List·getD-eq-default}
+use lib.Dec.{ltb, eqb}
+use borrow.Author.Tests.{eqb-true, eqb-false, ne-eqb, eq-eqb, ltb-true, ltb-false, lt-ltb}
 use Rattle.book.specs.Limits.{openLimit}
 use Rattle.book.specs.Sums.{only, total}
 use Rattle.book.specs.Pairs.{Entry, Terms, Pair, blank, isOpen, terms, entered, withHold, withLack, withPart, ended}
-use Rattle.book.specs.Figures.{none}
-use Rattle.book.specs.Answers.{Call, View, answer}
-use Rattle.book.specs.Calls.{
-  Book,
-  places,
-  firstPlace,
-  isOpenPair,
-  freePlace,
-  placeOf,
-  pairOf,
-  openCount,
-  viewOf,
-  answerOf,
-  pairsAfter,
-  afterAccepted,
-  freshBook,
-}
+use Rattle.book.specs.Answers.{Call}
+use Rattle.book.specs.Calls.{firstPlace, isOpenPair}
 use Rattle.book.specs.History.{dayOf, pairs}
-use Rattle.book.specs.Counted.{acted, replayed, highestId, openOnly, viewOfCalls}
-use Rattle.book.proofs.Theorems.Sums.{tests, clash, and-true, only-le, total-ext, total-le, total-swap, total-set, total-replicate}
+use Rattle.book.specs.Counted.{replayed, openOnly, viewOfCalls}
+use Rattle.book.proofs.Theorems.Sums.{clash, and-true, only-le, total-ext, total-le, total-swap, total-set}
 use Rattle.book.proofs.Theorems.Allowed.{Ranges, EnterAllowed, allowed}
-use Rattle.book.proofs.Theorems.Proper.{Proper, open-replayed, Unused, unused}
-use Rattle.book.proofs.Theorems.Places.{places-all, found-passes, none-passes, free-found, set-each, set-apart}
+use Rattle.book.proofs.Theorems.Proper.{Proper, Unused, unused}
+use Rattle.book.proofs.Theorems.Places.{found-passes, none-passes, set-each, set-apart}
 
 -- ---- an open pair was entered once
 

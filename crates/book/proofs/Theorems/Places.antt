@@ -5,26 +5,25 @@ use native.Mathlib.Omega.{arith}
 use mathlib.Core.Path.{_≡_, refl, sym, ap, _∙_}
 use mathlib.Core.Bool.{Bool, true, false, cond, not}
 use mathlib.Core.List.{List, [], _∷_}
-use lib.ListN.{length, getD, set, drop, length-set, drop-of-length-le}
-use lib.Seq.{getD-set-same, getD-set-other, drop-cons}
+use lib.ListN.{length, getD, set, length-set}
+use lib.Seq.{getD-set-same, getD-set-other}
 use lib.Dec.{eqb}
 use borrow.Author.Tests.{eqb-true}
 use Rattle.book.specs.Limits.{openLimit}
 use Rattle.book.specs.Sums.{only, total}
 use Rattle.book.specs.Pairs.{Pair, blank, isOpen}
-use Rattle.book.specs.Calls.{placesFrom, places, firstPlace}
+use Rattle.book.specs.Calls.{placesOf, places, firstPlace}
 use Rattle.book.proofs.Theorems.Sums.{tests}
 
 -- ---- the places are the array's elements
 
-places-drop : (n j : ℕ) (ps : List Pair) → j + n ≡ length ps → placesFrom n j ps ≡ drop j ps
-places-drop zero j ps l = sym (drop-of-length-le ps {i = j} (omega arith))
-places-drop (suc n) j ps l =
-    ap (getD ps j blank ∷_) (places-drop n (suc j) ps (omega arith)) ∙ sym (drop-cons ps j blank (omega arith))
+places-of : (ps : List Pair) → placesOf (length ps) ps ≡ ps
+places-of [] = refl
+places-of (p ∷ ps) = ap (p ∷_) (places-of ps)
 
 pub places-all : (ps : List Pair) → length ps ≡ openLimit → places ps ≡ ps
 unfolding places
-places-all ps l = places-drop openLimit 0 ps (sym l)
+places-all ps l = ap (λ (n : ℕ). placesOf n ps) (sym l) ∙ places-of ps
 
 -- ---- a search
 

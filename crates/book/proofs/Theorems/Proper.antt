@@ -1,21 +1,20 @@
 -- A list of accepted calls is proper where each of them was allowed by those before it. Then ids rise: an id above all
 -- accepted ones was never used, and an accepted one has one pair. Assumes nothing.
-use Prim.Native.Nat.{ℕ, zero, suc, _+_, _-_, _≤_, _<_, max}
-use native.Mathlib.Nat.{le-refl}
+use Prim.Native.Nat.{ℕ, _<_}
 use native.Mathlib.Omega.{arith}
-use mathlib.Core.Path.{_≡_, refl, sym, ap, _∙_}
-use mathlib.Core.Bool.{Bool, true, false, cond, not, _&&_, _||_, and-false}
-use mathlib.Core.List.{List, [], _∷_, _++_}
-use lib.Dec.{leb, ltb, eqb}
-use borrow.Author.Tests.{eqb-true, ne-eqb, eq-eqb}
-use Rattle.book.specs.Sums.{only, total, All}
+use mathlib.Core.Path.{_≡_, refl, _∙_}
+use mathlib.Core.Bool.{Bool, true, false, cond}
+use mathlib.Core.List.{List, [], _∷_}
+use lib.Dec.{eqb}
+use borrow.Author.Tests.{ne-eqb}
+use Rattle.book.specs.Sums.{only, total}
 use Rattle.book.specs.Pairs.{Entry, Pair, blank, isOpen}
-use Rattle.book.specs.Figures.{Posting, failing, failPostings}
+use Rattle.book.specs.Figures.{failPostings}
 use Rattle.book.specs.Answers.{Call, answer}
-use Rattle.book.specs.History.{isClose, dayOf, pairs, parts, settledOn, cancelledBefore, cancelledOn, beforeCancel}
+use Rattle.book.specs.History.{isClose, pairs, parts, settledOn, cancelledBefore, cancelledOn, beforeCancel}
 use Rattle.book.specs.Counted.{replayed, life, highestId, openOnly, viewOfCalls}
-use Rattle.book.proofs.Theorems.Sums.{tests, clash, all-map}
-use Rattle.book.proofs.Theorems.Allowed.{Allowed, EnterAllowed, OpenAllowed, SettleAllowed, allowed}
+use Rattle.book.proofs.Theorems.Sums.{clash}
+use Rattle.book.proofs.Theorems.Allowed.{Allowed, allowed}
 
 abbrev pub Proper : List Call → Type 0
 Proper [] = Unit

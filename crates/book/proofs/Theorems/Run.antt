@@ -1,41 +1,26 @@
 -- Along every list of calls the book mirrors its accepted calls, which are proper; so each answer is the one that the
 -- accepted calls give. Assumes nothing.
-use Prim.Native.Nat.{ℕ, zero, suc, _+_, _≤_, _<_, max}
+use Prim.Native.Nat.{ℕ, zero, suc}
 use native.Mathlib.Omega.{arith}
-use mathlib.Core.Path.{_≡_, refl, sym, ap, _∙_, subst, fun-ext}
-use mathlib.Core.Bool.{Bool, true, false, cond, not}
+use mathlib.Core.Path.{_≡_, refl, sym, ap, _∙_, fun-ext}
+use mathlib.Core.Bool.{true, false, cond, not}
 use mathlib.Core.List.{List, [], _∷_}
-use lib.ListN.{length, getD, set, replicate, length-replicate}
+use lib.ListN.{getD, set, replicate, length-replicate}
 use lib.Dec.{eqb}
 use borrow.Author.Tests.{not-true}
 use Rattle.book.specs.Limits.{openLimit}
 use Rattle.book.specs.Sums.{only, total}
-use Rattle.book.specs.Pairs.{Entry, Pair, blank, isOpen, terms, entered, withHold, withLack, withPart, ended}
+use Rattle.book.specs.Pairs.{Entry, Pair, blank, isOpen, terms, withHold, withLack, withPart, ended}
 use Rattle.book.specs.Answers.{Call, View, answer, isAccepted}
-use Rattle.book.specs.Calls.{
-  Book,
-  places,
-  firstPlace,
-  isOpenPair,
-  freePlace,
-  placeOf,
-  pairOf,
-  openCount,
-  viewOf,
-  answerOf,
-  pairsAfter,
-  afterAccepted,
-  after,
-  freshBook,
-}
-use Rattle.book.specs.History.{Event, acceptedCalls, dayOf, pairs}
+use Rattle.book.specs.Calls.{Book, places, firstPlace, placeOf, pairOf, openCount, viewOf, answerOf, pairsAfter, afterAccepted, after, freshBook}
+use Rattle.book.specs.History.{acceptedCalls, dayOf, pairs}
 use Rattle.book.specs.Balance.{State, step, run, afterCalls, bookAfter, acceptedOf}
 use Rattle.book.specs.Counted.{replayed, highestId, openOnly, viewOfCalls}
-use Rattle.book.proofs.Theorems.Sums.{tests, clash, total-replicate}
-use Rattle.book.proofs.Theorems.Allowed.{Allowed, EnterAllowed, OpenAllowed, SettleAllowed, allowed}
-use Rattle.book.proofs.Theorems.Proper.{Proper, open-replayed, Unused, unused}
+use Rattle.book.proofs.Theorems.Sums.{clash, total-replicate}
+use Rattle.book.proofs.Theorems.Allowed.{Allowed, EnterAllowed, allowed}
+use Rattle.book.proofs.Theorems.Proper.{Proper, open-replayed, unused}
 use Rattle.book.proofs.Theorems.Places.{places-all, found-passes, free-found}
-use Rattle.book.proofs.Theorems.Mirror.{Once, once, Placed, placeIn, pairIn, Found, found, pair-same, placed-changed, placed-entered}
+use Rattle.book.proofs.Theorems.Mirror.{once, Placed, pairIn, found, pair-same, placed-changed, placed-entered}
 
 pub record Mirrors (b : Book) (h : List Call) : Type 0 where
   pub today : b .today ≡ dayOf h

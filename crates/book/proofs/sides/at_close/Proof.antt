@@ -1,5 +1,5 @@
--- `at_close` meets its contract: each arm by the kind and the holds that it matched, and an arm without a hold by what
--- `by_lack` ensures. The returns stand in the order of the arms. Assumes nothing.
+-- `at_close` meets its contract: each arm by the kind, the holds and the lack that it matched. The returns stand in the
+-- order of the arms. Assumes nothing.
 use borrow.Author.Needs.{needs}
 use Rattle.book.proofs.sides.at_close.Statement.{statement}
 use Rattle.book.proofs.sides.at_close.Tie as tie
@@ -24,21 +24,33 @@ returns-5 : tie.Need-returns-5
 returns-5 c = rw (c .before .before .enum-told3 .given .1, c .enum-told6 .given .1)
 
 returns-6 : tie.Need-returns-6
-returns-6 c = rw (c .before .before .before .enum-told3 .given .1, c .before .enum-told7 .given .1) (c .by-lack .ensures)
+returns-6 c = rw (c .before .before .before .before .enum-told3 .given .1, c .before .before .enum-told7 .given .1, c .enum-told8 .given .1)
+
+returns-7 : tie.Need-returns-7
+returns-7 c = rw (c .before .before .before .before .enum-told3 .given .1, c .before .before .enum-told7 .given .1, c .enum-told9 .given .1)
+
+returns-8 : tie.Need-returns-8
+returns-8 c = rw (c .before .before .before .before .enum-told3 .given .1, c .before .before .enum-told7 .given .1, c .enum-told10 .given .1)
 
 -- ---- with payment
 
-returns-7 : tie.Need-returns-7
-returns-7 c = rw (c .before .before .enum-told8 .given .1, c .enum-told9 .given .1)
-
-returns-8 : tie.Need-returns-8
-returns-8 c = rw (c .before .before .enum-told8 .given .1, c .enum-told10 .given .1)
-
 returns-9 : tie.Need-returns-9
-returns-9 c = rw (c .before .before .enum-told8 .given .1, c .enum-told11 .given .1)
+returns-9 c = rw (c .before .before .enum-told11 .given .1, c .enum-told12 .given .1)
 
 returns-10 : tie.Need-returns-10
-returns-10 c = rw (c .before .before .before .enum-told8 .given .1, c .before .enum-told12 .given .1) (c .by-lack2 .ensures)
+returns-10 c = rw (c .before .before .enum-told11 .given .1, c .enum-told13 .given .1)
+
+returns-11 : tie.Need-returns-11
+returns-11 c = rw (c .before .before .enum-told11 .given .1, c .enum-told14 .given .1)
+
+returns-12 : tie.Need-returns-12
+returns-12 c = rw (c .before .before .before .before .enum-told11 .given .1, c .before .before .enum-told15 .given .1, c .enum-told16 .given .1)
+
+returns-13 : tie.Need-returns-13
+returns-13 c = rw (c .before .before .before .before .enum-told11 .given .1, c .before .before .enum-told15 .given .1, c .enum-told17 .given .1)
+
+returns-14 : tie.Need-returns-14
+returns-14 c = rw (c .before .before .before .before .enum-told11 .given .1, c .before .before .enum-told15 .given .1, c .enum-told18 .given .1)
 
 pub at-close-spec : {M : Type 1} → statement M
 at-close-spec =
@@ -51,13 +63,17 @@ at-close-spec =
     (λ c. search needs)
     (λ c. search needs)
     (λ c. search needs)
-    (λ c κs. search needs)
     (λ c. search needs)
     (λ c. search needs)
     (λ c. search needs)
     (λ c. search needs)
     (λ c. search needs)
-    (λ c κs. search needs)
+    (λ c. search needs)
+    (λ c. search needs)
+    (λ c. search needs)
+    (λ c. search needs)
+    (λ c. search needs)
+    (λ c. search needs)
     returns
     returns-2
     returns-3
@@ -67,4 +83,8 @@ at-close-spec =
     returns-7
     returns-8
     returns-9
-    returns-10)
+    returns-10
+    returns-11
+    returns-12
+    returns-13
+    returns-14)
