@@ -1,12 +1,14 @@
 -- A list of calls from a fresh book, and demand 3. Document 00, demand 3; document 01, 'A row'. Assumes nothing.
 use Prim.Native.Nat.{ℕ, zero, suc, _+_, _≤_}
 use mathlib.Core.Path.{_≡_}
+use mathlib.Core.Bool.{cond}
 use mathlib.Core.List.{List, [], _∷_}
 use lib.Dec.{T}
+use Rattle.book.specs.Limits.{categoryCount}
 use Rattle.book.specs.Figures.{Figure}
 use Rattle.book.specs.Answers.{Call}
 use Rattle.book.specs.Calls.{Book, answerOf, after, freshBook}
-use Rattle.book.specs.Rows.{rowOf}
+use Rattle.book.specs.Rows.{rowOf, figures, refusedBy, rowAnswer}
 use Rattle.book.specs.History.{Event, acceptedCalls, closed, Measure, number, value, newlyDue, cancelled, partSettled}
 
 -- ---- a list of calls
@@ -37,6 +39,14 @@ bookAfter calls = afterCalls calls .book
 abbrev pub acceptedOf : List Call → List Call
 acceptedOf calls = acceptedCalls (afterCalls calls .history)
 
+-- A day is closed, by the calls and their answers, exactly where the row call gives figures.
+abbrev pub ClosedDaysAreGiven : Type 0
+ClosedDaysAreGiven =
+    (calls : List Call) (day category : ℕ)
+    → category ≤ categoryCount
+    → rowAnswer (bookAfter calls) day category
+    ≡ cond (closed (acceptedOf calls) day) (figures (rowOf (bookAfter calls) day category)) (refusedBy 9)
+
 -- ---- the daily balance
 
 abbrev pub inMeasure : Measure → Figure → ℕ
@@ -66,6 +76,6 @@ Balances m b h day category =
 abbrev pub Demand3 : Type 0
 Demand3 =
     (calls : List Call) (m : Measure) (day category : ℕ)
-    → category ≤ 9
+    → category ≤ categoryCount
     → T (closed (acceptedOf calls) day)
     → Balances m (bookAfter calls) (acceptedOf calls) day category

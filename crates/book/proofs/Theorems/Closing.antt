@@ -39,7 +39,7 @@ use Rattle.book.proofs.Theorems.OnePair.{
   BalancesNow,
   Balanced,
   Now,
-  same,
+  eqb-same,
   from-isd,
   previous-same,
   settledOn-ahead,
@@ -125,7 +125,7 @@ module _ (m : Measure) (h : List Call) (e : Entry) where
   -- today what is part-settled so far is part-settled
   closed-part-today : partSettledOf m (Call.Close ∷ h) (dayOf h) e ≡ partNow m (dayOf h) h e
   unfolding partSettledOf settledOn beforeClose
-  closed-part-today = rw (same (dayOf h)) refl
+  closed-part-today = rw (eqb-same (dayOf h)) refl
 
   -- on the next day no part has settled
   closed-part-next : partNow m (suc (dayOf h)) (Call.Close ∷ h) e ≡ 0
@@ -154,7 +154,7 @@ module _ (m : Measure) (h : List Call) (e : Entry) (s : replayed h (e .id) .term
   -- fails of today are what is open and due
   fails-today : failsBy m (Call.Close ∷ h) (e .id) (dayOf h) ≡ only (leb (e .isd) (dayOf h)) (openSIs m (replayed h (e .id) .rest))
   fails-today =
-      let f = rw (same (dayOf h)) at (closed-fails m h e s (dayOf h)) in
+      let f = rw (eqb-same (dayOf h)) at (closed-fails m h e s (dayOf h)) in
       let b = B .unfailed (dayOf h) (le-refl (dayOf h)) in
       omega arith
 

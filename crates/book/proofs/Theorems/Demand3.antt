@@ -1,59 +1,33 @@
--- Demand 3, and that no sum reaches its cap. Each row is the plain sum of its pairs' lives, and each life balances; so
--- the rows do. Assumes nothing.
-use Prim.Native.Nat.{ℕ, zero, suc, _+_, _*_, _≤_, _<_}
-use native.Mathlib.Nat.{suc-mul}
+-- Demand 3. Each row is the plain sum of its pairs' lives, and each life balances; so the rows do. And the days that the
+-- calls close are those whose rows are given. Assumes nothing.
+use Prim.Native.Nat.{ℕ, zero, suc, _+_, _≤_, _<_}
 use native.Mathlib.Omega.{arith}
-use mathlib.Core.Path.{_≡_, refl, sym, ap}
-use mathlib.Core.Bool.{Bool, true, false, _||_}
+use mathlib.Core.Path.{_≡_, refl, sym, ap, _∙_, subst}
+use mathlib.Core.Bool.{Bool, true, false, cond, not, _&&_}
 use mathlib.Core.List.{List, [], _∷_}
-use lib.Dec.{T, lit<, eqb}
-use Rattle.book.specs.Limits.{dayLimit}
+use lib.Dec.{T, ltb, ltb→lt}
+use borrow.Author.Tests.{lt-ltb, le-leb}
+use Rattle.book.specs.Limits.{dayLimit, categoryCount}
 use Rattle.book.specs.Sums.{only}
 use Rattle.book.specs.Pairs.{Entry}
 use Rattle.book.specs.Answers.{Call}
-use Rattle.book.specs.Rows.{rowOf}
-use Rattle.book.specs.History.{
-  Measure,
-  number,
-  value,
-  dayOf,
-  closed,
-  pairs,
-  dueOf,
-  cancelledOf,
-  partSettledOf,
-  counts,
-  sumOver,
-}
-use Rattle.book.specs.Balance.{bookAfter, acceptedOf, inMeasure, failsOf, previousFails, Demand3}
-use Rattle.book.specs.Counted.{settled, securities, cash, isdValue, column, counted, viewOfCalls}
-use Rattle.book.specs.Exact.{most, sumFrom, totalOn, Exact, NoCapReached}
-use Rattle.book.proofs.Theorems.Sums.{tests, clash, only-zero, total-add, total-none, total-all}
+use Rattle.book.specs.Rows.{rowOf, figures, refusedBy, isClosed, rowAnswer}
+use Rattle.book.specs.History.{Measure, dayOf, closed, pairs, dueOf, cancelledOf, partSettledOf, counts, sumOver}
+use Rattle.book.specs.Balance.{bookAfter, acceptedOf, inMeasure, failsOf, previousFails, ClosedDaysAreGiven, Demand3}
+use Rattle.book.specs.Counted.{settled, securities, cash, column, counted, viewOfCalls}
+use Rattle.book.specs.Exact.{most}
+use Rattle.book.proofs.Theorems.Sums.{tests, only-zero, total-add, total-none, total-all}
 use Rattle.book.proofs.Theorems.Allowed.{allowed}
 use Rattle.book.proofs.Theorems.Proper.{Proper}
 use Rattle.book.proofs.Theorems.Lived.{Lived, settledIn, failsIn, settledBy, failsBy, previousBy}
 use Rattle.book.proofs.Theorems.Lives.{lives}
 use Rattle.book.proofs.Theorems.Run.{kept}
-use Rattle.book.proofs.Theorems.Bounds.{isd-in-fails}
-use Rattle.book.proofs.Theorems.Counting.{counted-add, counted-most, rows-lives, categories-sum}
+use Rattle.book.proofs.Theorems.Ties.{closed-past}
+use Rattle.book.proofs.Theorems.Counting.{counted-add, rows-lives}
 
 -- ---- the days of a proper list
 
--- a day is closed exactly where it is past
-pub closed-past : (h : List Call) (day : ℕ) → closed h day ≡ true → day < dayOf h
-unfolding closed dayOf
-closed-past [] day e = clash e refl
-closed-past (Call.Enter x ∷ h) day e = closed-past h day e
-closed-past (Call.Hold id side on ∷ h) day e = closed-past h day e
-closed-past (Call.Lack id lack ∷ h) day e = closed-past h day e
-closed-past (Call.Settle id part ∷ h) day e = closed-past h day e
-closed-past (Call.Cancel id ∷ h) day e = closed-past h day e
-closed-past (Call.Close ∷ h) day e = go (eqb (dayOf h) day) refl (closed h day) (closed-past h day) e
-  where
-    go : (t : Bool) → eqb (dayOf h) day ≡ t → (u : Bool) → (u ≡ true → day < dayOf h) → (t || u) ≡ true → day < suc (dayOf h)
-    go true p u f e = omega (arith, tests)
-    go false p u f e = let i = f e in omega arith
-
+-- at most 64 days are closed
 days-most : (h : List Call) → Proper h → dayOf h ≤ dayLimit
 unfolding dayOf viewOfCalls
 days-most [] P = omega arith
@@ -113,10 +87,10 @@ module _ (calls : List Call) (m : Measure) (category : ℕ) (nine : category ≤
   abbrev h : List Call
   h = acceptedOf calls
 
-  settled-row : (day : ℕ) → day < dayLimit → inMeasure m (rowOf (bookAfter calls) day category .settled) ≡ counted (settledIn m) selects h day
+  pub settled-row : (day : ℕ) → day < dayLimit → inMeasure m (rowOf (bookAfter calls) day category .settled) ≡ counted (settledIn m) selects h day
   settled-row day l = rows-lives calls (settled m) day category l nine
 
-  fails-row : (day : ℕ) → day < dayLimit → failsOf m (bookAfter calls) day category ≡ counted (failsIn m) selects h day
+  pub fails-row : (day : ℕ) → day < dayLimit → failsOf m (bookAfter calls) day category ≡ counted (failsIn m) selects h day
   fails-row day l =
       let a = rows-lives calls (securities m) day category l nine in
       let b = rows-lives calls (cash m) day category l nine in
@@ -130,7 +104,7 @@ module _ (calls : List Call) (m : Measure) (category : ℕ) (nine : category ≤
 pub demand3 : Demand3
 demand3 calls m day category nine shut =
     let P = kept calls .proper in
-    let past = closed-past (acceptedOf calls) day (is-true (closed (acceptedOf calls) day) shut) in
+    let past = ltb→lt day (dayOf (acceptedOf calls)) (subst T (closed-past (acceptedOf calls) day) shut) in
     let most = days-most (acceptedOf calls) P in
     let l : day < dayLimit = omega arith in
     let s = settled-row calls m category nine day l in
@@ -138,60 +112,29 @@ demand3 calls m day category nine shut =
     let p = previous-row calls m category nine day l in
     let b = lives-balance m (λ e. counts category (e .category)) (acceptedOf calls) P day past in
     omega arith
+
+-- ---- the closed days
+
+-- a day before today is one of the 64
+closed-both : (day today : ℕ) → today ≤ dayLimit → (ltb day today && ltb day dayLimit) ≡ ltb day today
+closed-both day today l = go (ltb day today) refl
   where
-    is-true : (t : Bool) → T t → t ≡ true
-    is-true true x = refl
-    is-true false x = absurd x
+    go : (t : Bool) → ltb day today ≡ t → (t && ltb day dayLimit) ≡ t
+    go true p = lt-ltb day dayLimit (omega (arith, tests))
+    go false p = refl
 
--- ---- no cap is reached
-
-module _ (calls : List Call) where
-  plain-sum : (m : Measure) (day category : ℕ) → day < dayLimit → category ≤ 9
-      → inMeasure m (rowOf (bookAfter calls) day category .settled) + inMeasure m (rowOf (bookAfter calls) day category .securities)
-      + inMeasure m (rowOf (bookAfter calls) day category .cash) ≤ most m
-  plain-sum m day category l nine =
-      let s = settled-row calls m category nine day l in
-      let f = fails-row calls m category nine day l in
-      let a = counted-add (settledIn m) (failsIn m) (λ e. counts category (e .category)) (acceptedOf calls) day in
-      let b = counted-most m (λ e. counts category (e .category)) (acceptedOf calls) (kept calls .proper) day in
-      omega arith
-
-  totals : (m : Measure) (day category : ℕ) → day < dayLimit → category ≤ 9
-      → totalOn m (bookAfter calls) category day
-      ≡ inMeasure m (rowOf (bookAfter calls) day category .settled) + inMeasure m (rowOf (bookAfter calls) day category .securities)
-      + inMeasure m (rowOf (bookAfter calls) day category .cash)
-  totals number day category l nine = let a = plain-sum number day category l nine in omega arith
-  totals value day category l nine = let a = plain-sum value day category l nine in omega arith
-
-  rows-most : (m : Measure) (day category : ℕ) → day < dayLimit → category ≤ 9 → totalOn m (bookAfter calls) category day ≤ most m
-  rows-most m day category l nine = let a = plain-sum m day category l nine in let b = totals m day category l nine in omega arith
-
-  runs-most : (m : Measure) (category first n : ℕ) → first + n ≤ dayLimit → category ≤ 9
-      → sumFrom (totalOn m (bookAfter calls) category) first n ≤ n * most m
-  runs-most m category first zero l nine = omega arith
-  runs-most m category first (suc n) l nine =
-      let a = rows-most m first category (omega arith) nine in
-      let i = runs-most m category (suc first) n (omega arith) nine in
-      let s = suc-mul n (most m) in
-      omega arith
-
-  isd-most : (day category : ℕ) → day < dayLimit → category ≤ 9
-      → rowOf (bookAfter calls) day category .«isd_value»
-      ≤ inMeasure value (rowOf (bookAfter calls) day category .securities) + inMeasure value (rowOf (bookAfter calls) day category .cash)
-  isd-most day category l nine =
-      let a = rows-lives calls isdValue day category l nine in
-      let b = isd-in-fails (λ e. counts category (e .category)) (acceptedOf calls) day in
-      let f = fails-row calls value category nine day l in
-      omega arith
-
-  exact : Exact (bookAfter calls)
-  exact = record {
-    totals = totals;
-    categories = categories-sum calls;
-    rows = rows-most;
-    isdValues = isd-most;
-    runs = runs-most;
-  }
-
-pub no-cap-reached : NoCapReached
-no-cap-reached = (exact, lit< tt)
+pub closed-given : ClosedDaysAreGiven
+unfolding rowAnswer
+closed-given calls day category nine =
+    let h = acceptedOf calls in
+    let same : isClosed (bookAfter calls) day ≡ closed h day
+    = closed-both day (bookAfter calls .today) (let t = kept calls .mirrors .today in let l = days-most h (kept calls .proper) in omega arith)
+    ∙ ap (ltb day) (kept calls .mirrors .today)
+    ∙ sym (closed-past h day) in
+    rw (le-leb category categoryCount nine, same) (either (closed h day))
+  where
+    either : (t : Bool)
+        → cond (not t) (refusedBy 9) (figures (rowOf (bookAfter calls) day category))
+        ≡ cond t (figures (rowOf (bookAfter calls) day category)) (refusedBy 9)
+    either true = refl
+    either false = refl

@@ -5,13 +5,13 @@ use native.Mathlib.Nat.{le-refl}
 use native.Mathlib.Omega.{arith}
 use mathlib.Core.Path.{_≡_, refl, ap, _∙_}
 use mathlib.Core.Bool.{Bool, true, false, _&&_, and-true, and-false}
-use mathlib.Core.List.{List, [], _∷_}
+use mathlib.Core.List.{List, _∷_}
 use lib.Dec.{leb, ltb, eqb, leb·suc-suc}
 use borrow.Author.Tests.{eqb-true, ne-eqb, le-ltb, lt-ltb, le-leb, lt-leb}
 use Rattle.book.specs.Sums.{only}
 use Rattle.book.specs.SideOfFail.{sidesWhenLate}
 use Rattle.book.specs.Pairs.{Entry, Terms, terms, entered}
-use Rattle.book.specs.Figures.{Cell, failFigures, lateFrom, latePostings}
+use Rattle.book.specs.Figures.{Cell, failFigures, lateFrom}
 use Rattle.book.specs.Answers.{Call}
 use Rattle.book.specs.History.{
   dayOf,
@@ -25,9 +25,9 @@ use Rattle.book.specs.History.{
   cancelledOf,
   partSettledOf,
 }
-use Rattle.book.specs.Counted.{replayed, life, postedOn, restAtCancel}
-use Rattle.book.proofs.Theorems.Sums.{tests, only-zero, total-append}
-use Rattle.book.proofs.Theorems.Proper.{Unused}
+use Rattle.book.specs.Counted.{replayed, postedOn, restAtCancel}
+use Rattle.book.proofs.Theorems.Sums.{tests, only-zero}
+use Rattle.book.proofs.Theorems.Proper.{Unused, entered-life}
 use Rattle.book.proofs.Theorems.Lived.{settledIn, failsIn, settledBy, failsBy, previousBy}
 use Rattle.book.proofs.Theorems.OnePair.{
   partNow,
@@ -35,7 +35,7 @@ use Rattle.book.proofs.Theorems.OnePair.{
   BalancesNow,
   Balanced,
   Now,
-  same,
+  eqb-same,
   from-isd,
   never-cancelled,
   none-cancelled,
@@ -85,18 +85,10 @@ late-days isd t d = go (leb isd d) refl (ltb d t) refl
 -- ---- the readings after the enter
 
 module _ (m : Measure) (h : List Call) (e : Entry) (U : Unused h (e .id)) where
-  -- all that the pair's calls post is its late days
-  enter-posted : (f : Cell → ℕ) (d : ℕ)
-      → postedOn f d (life (Call.Enter e ∷ h) (e .id)) ≡ postedOn f d (lateFrom (dayOf h - e .isd) (e .isd) (terms e))
-  unfolding life
-  enter-posted f d =
-      rw (same (e .id), U .noLife)
-      (let a = total-append (λ x. only (eqb (x .day) d) (f (x .figures))) (latePostings (dayOf h) (terms e)) [] in omega arith)
-
   -- nothing has settled
   enter-settled : (d : ℕ) → settledBy m (Call.Enter e ∷ h) (e .id) d ≡ 0
   enter-settled d =
-      enter-posted (settledIn m) d
+      ap (postedOn (settledIn m) d) (entered-life h e U)
       ∙ late-posted (settledIn m) 0 (terms e) (fails-settle-none m (sidesWhenLate (terms e .kind) (terms e .side)) (e .amount))
       (dayOf h - e .isd) (e .isd) d
       ∙ only-zero (leb (e .isd) d && ltb d (e .isd + (dayOf h - e .isd)))
@@ -104,7 +96,7 @@ module _ (m : Measure) (h : List Call) (e : Entry) (U : Unused h (e .id)) where
   -- it failed on each day from its ISD to yesterday, and on no other
   enter-fails : (d : ℕ) → failsBy m (Call.Enter e ∷ h) (e .id) d ≡ only (leb (e .isd) d && ltb d (dayOf h)) (twoSIs m (e .amount))
   enter-fails d =
-      enter-posted (failsIn m) d
+      ap (postedOn (failsIn m) d) (entered-life h e U)
       ∙ late-posted (failsIn m) (twoSIs m (e .amount)) (terms e)
       (fails-two m (sidesWhenLate (terms e .kind) (terms e .side)) (e .amount)) (dayOf h - e .isd) (e .isd) d
       ∙ ap (λ t. only t (twoSIs m (e .amount))) (late-days (e .isd) (dayOf h) d)
@@ -189,7 +181,7 @@ module _ (m : Measure) (h : List Call) (e : Entry) (U : Unused h (e .id)) where
 -- the pair as entered
 enter-replayed : (h : List Call) (e : Entry) → replayed (Call.Enter e ∷ h) (e .id) ≡ entered (terms e)
 unfolding replayed
-enter-replayed h e = rw (same (e .id)) refl
+enter-replayed h e = rw (eqb-same (e .id)) refl
 
 -- what holds of a pair holds of the new one
 pub enter-now : (h : List Call) (e : Entry) → Unused h (e .id) → 0 < e .amount → Now (Call.Enter e ∷ h) e

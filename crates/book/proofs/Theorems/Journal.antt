@@ -6,7 +6,6 @@ use mathlib.Core.Path.{_≡_, refl, sym, ap, ap₂, _∙_}
 use mathlib.Core.Bool.{Bool, true, false, cond}
 use mathlib.Core.List.{List, [], _∷_, _++_}
 use lib.Dec.{eqb}
-use borrow.Author.Tests.{eq-eqb}
 use Rattle.book.specs.Sums.{only, total, All}
 use Rattle.book.specs.Pairs.{Entry, Terms, Pair, isOpen, terms}
 use Rattle.book.specs.Figures.{Cell, Posting, lateFrom, latePostings, partPosting, failing, failPosting, failPostings}
@@ -16,18 +15,10 @@ use Rattle.book.specs.History.{dayOf, pairs, sumOver}
 use Rattle.book.specs.Counted.{replayed, posts, life, postedOn, postedFor, counted, viewOfCalls}
 use Rattle.book.proofs.Theorems.Sums.{only-zero, total-ext, total-add, total-none, total-append, total-all}
 use Rattle.book.proofs.Theorems.Allowed.{Allowed}
-use Rattle.book.proofs.Theorems.Proper.{Proper, open-replayed, Unused, unused}
+use Rattle.book.proofs.Theorems.Proper.{Proper, open-replayed, Unused, entered-life, unused}
 use Rattle.book.proofs.Theorems.Places.{places-all}
 use Rattle.book.proofs.Theorems.Mirror.{Once, once, Placed, OfOpen, found}
 use Rattle.book.proofs.Theorems.Run.{Mirrors}
-
--- the life of a pair that is entered begins with its late days
-own-life : (f : Cell → ℕ) (d : ℕ) (h : List Call) (e : Entry) → Unused h (e .id)
-    → postedOn f d (life (Call.Enter e ∷ h) (e .id)) ≡ postedOn f d (latePostings (dayOf h) (terms e))
-unfolding life
-own-life f d h e U =
-    let a = total-append (λ x. only (eqb (x .day) d) (f (x .figures))) (latePostings (dayOf h) (terms e)) [] in
-    rw (eq-eqb (e .id) (e .id) refl, U .noLife) (omega arith)
 
 module _ (f : Cell → ℕ) (selects : Terms → Bool) (d : ℕ) where
   -- ---- postings for one pair
@@ -151,15 +142,11 @@ module _ (f : Cell → ℕ) (selects : Terms → Bool) (d : ℕ) where
         (λ x. pick (selects (terms x)) (eqb (e .id) (x .id)) (latePostings (dayOf h) (terms e))) (pairs h) in
         let c = U .noPair w in
         let x = late-one (dayOf h - e .isd) (e .isd) (terms e) in
-        let y : postedOn f d (life (Call.Enter e ∷ h) (e .id)) ≡ postedOn f d (latePostings (dayOf h) (terms e)) = own in
-        let z = ap (only (selects (terms e))) y in
+        let y = ap (λ (xs : List Posting). only (selects (terms e)) (postedOn f d xs)) (entered-life h e U) in
         omega arith
       where
         w : Entry → ℕ
         w x = only (selects (terms x)) (postedOn f d (latePostings (dayOf h) (terms e)))
-
-        own : postedOn f d (life (Call.Enter e ∷ h) (e .id)) ≡ postedOn f d (latePostings (dayOf h) (terms e))
-        own = own-life f d h e U
 
 -- ---- any accepted call
 

@@ -23,7 +23,7 @@ use Rattle.book.specs.History.{
   partSettledOf,
 }
 use Rattle.book.specs.Counted.{replayed, viewOfCalls}
-use Rattle.book.proofs.Theorems.Sums.{tests, all-map}
+use Rattle.book.proofs.Theorems.Sums.{tests, only-le, all-map}
 use Rattle.book.proofs.Theorems.Allowed.{Allowed, OpenAllowed, SettleAllowed, allowed}
 use Rattle.book.proofs.Theorems.Proper.{Proper, Unused, unused, open-replayed}
 use Rattle.book.proofs.Theorems.Lived.{settledBy, failsBy, previousBy, Lived}
@@ -34,11 +34,6 @@ use Rattle.book.proofs.Theorems.Settling.{settle-now, cancel-now}
 use Rattle.book.proofs.Theorems.Entering.{enter-now}
 
 -- ---- from what holds so far to a pair's life
-
--- a test lets through no more than there is
-only-most : (t : Bool) (n : ℕ) → only t n ≤ n
-only-most true n = omega arith
-only-most false n = omega arith
 
 module _ (m : Measure) (h : List Call) (e : Entry) (B : Balanced m (dayOf h) (replayed h (e .id) .rest) h e) where
   -- at most the two SIs failed on the day before, and only past the ISD
@@ -52,7 +47,7 @@ module _ (m : Measure) (h : List Call) (e : Entry) (B : Balanced m (dayOf h) (re
   due-most d = go (eqb (e .isd) d) (not (cancelledBefore h d (e .id)))
     where
       go : (a b : Bool) → only (a && b) (twoSIs m (e .amount)) ≤ only a (twoSIs m (e .amount))
-      go true b = only-most b (twoSIs m (e .amount))
+      go true b = only-le b (twoSIs m (e .amount))
       go false b = omega arith
 
   -- a day begins with at most the two SIs
@@ -61,13 +56,13 @@ module _ (m : Measure) (h : List Call) (e : Entry) (B : Balanced m (dayOf h) (re
       let v = previous-most d in
       let u = due-most d in
       let s = from-isd (e .isd) d (twoSIs m (e .amount)) in
-      let k = only-most (leb (e .isd) d) (twoSIs m (e .amount)) in
+      let k = only-le (leb (e .isd) d) (twoSIs m (e .amount)) in
       omega arith
 
   -- part-settled is at most two more
   part-most : (d : ℕ) → partSettledOf m h d e ≤ twoMore m
   unfolding partSettledOf
-  part-most d = only-most (settledOn h d (e .id) && ltb 0 (restOf (beforeClose h d) e)) (twoMore m)
+  part-most d = only-le (settledOn h d (e .id) && ltb 0 (restOf (beforeClose h d) e)) (twoMore m)
 
   -- a day has at most the two SIs and, where a part settled, two more
   most : (d : ℕ) → settledBy m h (e .id) d + failsBy m h (e .id) d ≤ twoSIs m (e .amount) + twoMore m
@@ -78,7 +73,7 @@ module _ (m : Measure) (h : List Call) (e : Entry) (B : Balanced m (dayOf h) (re
           let b = B .now in
           let f = B .unfailed (dayOf h) (omega arith) in
           let s = begins-most (dayOf h) in
-          let p = only-most (settledOn h (dayOf h) (e .id) && ltb 0 (restOf h e)) (twoMore m) in
+          let p = only-le (settledOn h (dayOf h) (e .id) && ltb 0 (restOf h e)) (twoMore m) in
           omega arith
 
       go : (a : Bool) → ltb d (dayOf h) ≡ a → (b : Bool) → eqb (dayOf h) d ≡ b

@@ -83,8 +83,8 @@ pub record Now (h : List Call) (e : Entry) : Type 0 where
 -- ---- days
 
 -- a number equals itself, as a test
-pub same : (n : ℕ) → eqb n n ≡ true
-same n = eq-eqb n n refl
+pub eqb-same : (n : ℕ) → eqb n n ≡ true
+eqb-same n = eq-eqb n n refl
 
 -- a day from the ISD on is past it, or the ISD
 pub from-isd : (isd d n : ℕ) → only (leb isd d) n ≡ only (ltb isd d) n + only (eqb isd d) n
@@ -142,7 +142,7 @@ not-latest : (c : Call) (h : List Call) (i : ℕ) → ((d : ℕ) → cancelledOn
     → (cancels i c ≡ false) × ((d : ℕ) → cancelledOn h d i ≡ false)
 unfolding cancelledOn
 not-latest c h i n =
-    (go (cancels i c) (rw (same (dayOf h)) at (n (dayOf h))), λ d. or-false (cancels i c && eqb (dayOf h) d) (cancelledOn h d i) (n d) .1)
+    (go (cancels i c) (rw (eqb-same (dayOf h)) at (n (dayOf h))), λ d. or-false (cancels i c && eqb (dayOf h) d) (cancelledOn h d i) (n d) .1)
   where
     go : (t : Bool) → (t && true || cancelledOn h (dayOf h) i) ≡ false → t ≡ false
     go true k = clash refl k
@@ -177,7 +177,7 @@ fails-settle-none value Sides.OneEach v o = refl
 -- ---- a call of today that leaves the past
 
 -- g reads as h does on other days, and in all fails and what is due by today
-pub record Kept (m : Measure) (today : ℕ) (g h : List Call) (e : Entry) : Type 0 where
+pub record SamePast (m : Measure) (today : ℕ) (g h : List Call) (e : Entry) : Type 0 where
   pub fails : (d : ℕ) → failsBy m g (e .id) d ≡ failsBy m h (e .id) d
   pub settled : (d : ℕ) → (today ≡ d → ⊥) → settledBy m g (e .id) d ≡ settledBy m h (e .id) d
   pub due : (d : ℕ) → d ≤ today → dueOf m g d e ≡ dueOf m h d e
@@ -185,17 +185,17 @@ pub record Kept (m : Measure) (today : ℕ) (g h : List Call) (e : Entry) : Type
   pub part : (d : ℕ) → d < today → partSettledOf m g d e ≡ partSettledOf m h d e
 
 -- today begins alike
-pub kept-begins : (m : Measure) (today : ℕ) (g h : List Call) (e : Entry) → Kept m today g h e
+pub same-begins : (m : Measure) (today : ℕ) (g h : List Call) (e : Entry) → SamePast m today g h e
     → previousBy m g (e .id) today + dueOf m g today e ≡ previousBy m h (e .id) today + dueOf m h today e
-kept-begins m today g h e K =
+same-begins m today g h e K =
     let v = previous-same m g h (e .id) today (λ x k. K .fails x) in
     let u = K .due today (le-refl today) in
     omega arith
 
-module _ (m : Measure) (today rest after : ℕ) (g h : List Call) (e : Entry) (K : Kept m today g h e) (B : Balanced m today rest h e) where
+module _ (m : Measure) (today rest after : ℕ) (g h : List Call) (e : Entry) (K : SamePast m today g h e) (B : Balanced m today rest h e) where
   -- past days still balance
-  kept-past : (d : ℕ) → d < today → BalancesOn d m g e
-  kept-past d l =
+  same-past : (d : ℕ) → d < today → BalancesOn d m g e
+  same-past d l =
       let f = K .fails d in
       let s = K .settled d (omega arith) in
       let u = K .due d (omega arith) in
@@ -206,11 +206,11 @@ module _ (m : Measure) (today rest after : ℕ) (g h : List Call) (e : Entry) (K
       omega arith
 
   -- so it is enough to show today, and what is due later
-  pub kept-balanced : BalancesNow today after m g e
+  pub same-balanced : BalancesNow today after m g e
       → ((d : ℕ) → today < d → dueOf m g d e ≡ only (eqb (e .isd) d) (openSIs m after))
       → Balanced m today after g e
-  kept-balanced now ahead = record {
-    past = kept-past;
+  same-balanced now ahead = record {
+    past = same-past;
     now = now;
     unfailed = λ d l. K .fails d ∙ B .unfailed d l;
     unpaid = λ d l. K .settled d (omega arith) ∙ B .unpaid d l;

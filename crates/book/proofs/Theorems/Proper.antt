@@ -4,14 +4,14 @@ use Prim.Native.Nat.{ℕ, _<_}
 use native.Mathlib.Omega.{arith}
 use mathlib.Core.Path.{_≡_, refl, _∙_}
 use mathlib.Core.Bool.{Bool, true, false, cond}
-use mathlib.Core.List.{List, [], _∷_}
+use mathlib.Core.List.{List, [], _∷_, append-nil}
 use lib.Dec.{eqb}
-use borrow.Author.Tests.{ne-eqb}
+use borrow.Author.Tests.{ne-eqb, eq-eqb}
 use Rattle.book.specs.Sums.{only, total}
-use Rattle.book.specs.Pairs.{Entry, Pair, blank, isOpen}
-use Rattle.book.specs.Figures.{failPostings}
+use Rattle.book.specs.Pairs.{Entry, Pair, blank, isOpen, terms}
+use Rattle.book.specs.Figures.{latePostings, failPostings}
 use Rattle.book.specs.Answers.{Call, answer}
-use Rattle.book.specs.History.{isClose, pairs, parts, settledOn, cancelledBefore, cancelledOn, beforeCancel}
+use Rattle.book.specs.History.{isClose, dayOf, pairs, parts, settledOn, cancelledBefore, cancelledOn, beforeCancel}
 use Rattle.book.specs.Counted.{replayed, life, highestId, openOnly, viewOfCalls}
 use Rattle.book.proofs.Theorems.Sums.{clash}
 use Rattle.book.proofs.Theorems.Allowed.{Allowed, allowed}
@@ -145,6 +145,11 @@ unused-close h i U = record {
   noCancelBefore = U .noCancelBefore;
   noCancelOn = U .noCancelOn;
 }
+
+-- the life of a pair that is entered now is its late days
+pub entered-life : (h : List Call) (e : Entry) → Unused h (e .id) → life (Call.Enter e ∷ h) (e .id) ≡ latePostings (dayOf h) (terms e)
+unfolding life
+entered-life h e U = rw (eq-eqb (e .id) (e .id) refl, U .noLife) (append-nil (latePostings (dayOf h) (terms e)))
 
 -- an accepted call on an open pair has another id
 not-used : (h : List Call) (i id : ℕ) → Unused h i → isOpen (viewOfCalls h .pair id) ≡ true → eqb id i ≡ false

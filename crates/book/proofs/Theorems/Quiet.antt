@@ -26,7 +26,7 @@ use Rattle.book.specs.History.{
 use Rattle.book.specs.Counted.{replayed, life, postedOn, restAtCancel}
 use Rattle.book.proofs.Theorems.Proper.{concerns, untouched}
 use Rattle.book.proofs.Theorems.Lived.{settledIn, failsIn}
-use Rattle.book.proofs.Theorems.OnePair.{partNow, BalancesNow, Balanced, Now, Kept, kept-begins, kept-balanced}
+use Rattle.book.proofs.Theorems.OnePair.{partNow, BalancesNow, Balanced, Now, SamePast, same-begins, same-balanced}
 
 -- the readings of the pair are those before the call
 pub record Quiet (c : Call) (h : List Call) (e : Entry) : Type 0 where
@@ -62,8 +62,8 @@ module _ (m : Measure) (c : Call) (h : List Call) (e : Entry) (Q : Quiet c h e) 
   quiet-part d = rw (Q .settle d, Q .closeFrom d) refl
 
   -- the other days
-  quiet-kept : (today : ℕ) → Kept m today (c ∷ h) h e
-  quiet-kept today = record {
+  quiet-same : (today : ℕ) → SamePast m today (c ∷ h) h e
+  quiet-same today = record {
     fails = λ d. ap (postedOn (failsIn m) d) (Q .lived);
     settled = λ d n. ap (postedOn (settledIn m) d) (Q .lived);
     due = λ d l. quiet-due d;
@@ -77,13 +77,13 @@ module _ (m : Measure) (c : Call) (h : List Call) (e : Entry) (Q : Quiet c h e) 
       let s = ap (postedOn (settledIn m) today) (Q .lived) in
       let x = quiet-cancelled today in
       let p : partNow m today (c ∷ h) e ≡ partNow m today h e = rw (Q .settle today, Q .part) refl in
-      let v = kept-begins m today (c ∷ h) h e (quiet-kept today) in
+      let v = same-begins m today (c ∷ h) h e (quiet-same today) in
       omega arith
 
   -- the figures
   quiet-balanced : (today rest : ℕ) → Balanced m today rest h e → Balanced m today rest (c ∷ h) e
   quiet-balanced today rest B =
-      kept-balanced m today rest rest (c ∷ h) h e (quiet-kept today) B (quiet-today today rest (B .now)) (λ d l. quiet-due d ∙ B .ahead d l)
+      same-balanced m today rest rest (c ∷ h) h e (quiet-same today) B (quiet-today today rest (B .now)) (λ d l. quiet-due d ∙ B .ahead d l)
 
 -- what held of the pair still holds
 pub quiet-now : (c : Call) (h : List Call) (e : Entry) → Quiet c h e → Now h e → Now (c ∷ h) e

@@ -38,12 +38,12 @@ use Rattle.book.proofs.Theorems.OnePair.{
   partNow,
   BalancesNow,
   Now,
-  same,
+  eqb-same,
   never-cancelled,
   none-cancelled,
-  Kept,
-  kept-begins,
-  kept-balanced,
+  SamePast,
+  same-begins,
+  same-balanced,
 }
 
 -- the rest of an open pair is its amount less its parts
@@ -84,17 +84,17 @@ module _ (h : List Call) (e : Entry) (q : ℕ) where
   -- the pair, with the part settled
   settle-replayed : replayed (Call.Settle (e .id) q ∷ h) (e .id) ≡ withPart (dayOf h) q (replayed h (e .id))
   unfolding replayed
-  settle-replayed = rw (same (e .id)) refl
+  settle-replayed = rw (eqb-same (e .id)) refl
 
   -- its parts, with one more
   settle-parts : parts (Call.Settle (e .id) q ∷ h) (e .id) ≡ q + parts h (e .id)
   unfolding parts
-  settle-parts = rw (same (e .id)) refl
+  settle-parts = rw (eqb-same (e .id)) refl
 
   -- a settle falls on today
   settle-settledOn : settledOn (Call.Settle (e .id) q ∷ h) (dayOf h) (e .id) ≡ true
   unfolding settledOn
-  settle-settledOn = rw (same (e .id), same (dayOf h)) refl
+  settle-settledOn = rw (eqb-same (e .id), eqb-same (dayOf h)) refl
 
   -- cancelled reads as before
   settle-cancelled : (m : Measure) (d : ℕ) → cancelledOf m (Call.Settle (e .id) q ∷ h) d e ≡ cancelledOf m h d e
@@ -110,12 +110,12 @@ module _ (h : List Call) (e : Entry) (q : ℕ) where
   settle-posted : (f : Cell → ℕ) (d : ℕ) → postedOn f d (life (Call.Settle (e .id) q ∷ h) (e .id))
       ≡ only (eqb (dayOf h) d) (f (partFigures (not (partOn (dayOf h) (replayed h (e .id)))) q)) + postedOn f d (life h (e .id))
   unfolding life
-  settle-posted f d = rw (same (e .id)) refl
+  settle-posted f d = rw (eqb-same (e .id)) refl
 
   -- the other days
-  settle-kept : (m : Measure) → Kept m (dayOf h) (Call.Settle (e .id) q ∷ h) h e
+  settle-same : (m : Measure) → SamePast m (dayOf h) (Call.Settle (e .id) q ∷ h) h e
   unfolding partSettledOf settledOn beforeClose
-  settle-kept m = record {
+  settle-same m = record {
     fails = λ d.
         let p = settle-posted (failsIn m) d in
         let z = rw (part-fails-none m (not (partOn (dayOf h) (replayed h (e .id)))) q, only-zero (eqb (dayOf h) d)) at p in
@@ -123,7 +123,7 @@ module _ (h : List Call) (e : Entry) (q : ℕ) where
     settled = λ d n. let z = rw (ne-eqb (dayOf h) d n) at (settle-posted (settledIn m) d) in omega arith;
     due = λ d l. settle-due m d;
     cancelled = λ d l. settle-cancelled m d;
-    part = λ d l. rw (same (e .id), ne-eqb (dayOf h) d (omega arith)) refl;
+    part = λ d l. rw (eqb-same (e .id), ne-eqb (dayOf h) d (omega arith)) refl;
   }
 
 -- an accepted settle: the pair is due, and the part is 1 to its rest
@@ -139,9 +139,9 @@ module _ (h : List Call) (e : Entry) (q : ℕ) (N : Now h e) (due : e .isd ≤ d
   settle-today : (m : Measure) → BalancesNow (dayOf h) (replayed h (e .id) .rest - q) m (Call.Settle (e .id) q ∷ h) e
   settle-today m =
       let r = open-rest h e N (omega arith) in
-      let s = rw (same (dayOf h), N .marked) at (settle-posted h e q (settledIn m) (dayOf h)) in
+      let s = rw (eqb-same (dayOf h), N .marked) at (settle-posted h e q (settledIn m) (dayOf h)) in
       let c = settle-cancelled h e q m (dayOf h) in
-      let v = kept-begins m (dayOf h) (Call.Settle (e .id) q ∷ h) h e (settle-kept h e q m) in
+      let v = same-begins m (dayOf h) (Call.Settle (e .id) q ∷ h) h e (settle-same h e q m) in
       let p = open-partNow m h e (omega arith) in
       let p′ = settle-partNow m in
       let w = part-moves m (settledOn h (dayOf h) (e .id)) q (replayed h (e .id) .rest) some most in
@@ -162,13 +162,13 @@ module _ (h : List Call) (e : Entry) (q : ℕ) (N : Now h e) (due : e .isd ≤ d
   settle-now = record {
     terms = ap (λ p. p .terms) (settle-replayed h e q) ∙ N .terms;
     amount = rw (settle-replayed h e q, settle-parts h e q) (let a = N .amount in omega arith);
-    marked = rw (settle-replayed h e q, settle-settledOn h e q) (same (suc (dayOf h)));
+    marked = rw (settle-replayed h e q, settle-settledOn h e q) (eqb-same (suc (dayOf h)));
     markedBy = rw (settle-replayed h e q) (le-refl (suc (dayOf h)));
     live = λ o. N .live (omega arith);
     balanced = λ m.
         rw (settle-replayed h e q)
-        (kept-balanced m (dayOf h) (replayed h (e .id) .rest) (replayed h (e .id) .rest - q) (Call.Settle (e .id) q ∷ h) h e
-        (settle-kept h e q m) (N .balanced m) (settle-today m) (settle-ahead m));
+        (same-balanced m (dayOf h) (replayed h (e .id) .rest) (replayed h (e .id) .rest - q) (Call.Settle (e .id) q ∷ h) h e
+        (settle-same h e q m) (N .balanced m) (settle-today m) (settle-ahead m));
   }
 
 -- ---- cancel
@@ -178,12 +178,12 @@ module _ (h : List Call) (e : Entry) where
   -- the pair, ended
   cancel-replayed : replayed (Call.Cancel (e .id) ∷ h) (e .id) ≡ ended (replayed h (e .id))
   unfolding replayed
-  cancel-replayed = rw (same (e .id)) refl
+  cancel-replayed = rw (eqb-same (e .id)) refl
 
   -- its rest at the cancel is what is left now
   cancel-rest : restAtCancel (Call.Cancel (e .id) ∷ h) e ≡ restOf h e
   unfolding restAtCancel
-  cancel-rest = rw (same (e .id)) refl
+  cancel-rest = rw (eqb-same (e .id)) refl
 
   -- settled reads as before
   cancel-settled : (m : Measure) (d : ℕ) → settledBy m (Call.Cancel (e .id) ∷ h) (e .id) d ≡ settledBy m h (e .id) d
@@ -198,21 +198,21 @@ module _ (h : List Call) (e : Entry) where
   -- today, if it is due, its rest is cancelled
   cancel-cancelled : (m : Measure) → cancelledOf m (Call.Cancel (e .id) ∷ h) (dayOf h) e ≡ only (leb (e .isd) (dayOf h)) (twoSIs m (restOf h e))
   unfolding cancelledOf cancelledOn beforeCancel
-  cancel-cancelled m = rw (same (e .id), same (dayOf h), and-true (leb (e .isd) (dayOf h))) refl
+  cancel-cancelled m = rw (eqb-same (e .id), eqb-same (dayOf h), and-true (leb (e .isd) (dayOf h))) refl
 
   -- later it is not newly due
   cancel-due : (m : Measure) (d : ℕ) → dayOf h < d → dueOf m (Call.Cancel (e .id) ∷ h) d e ≡ 0
   unfolding dueOf cancelledBefore
-  cancel-due m d l = rw (same (e .id), lt-ltb (dayOf h) d l, and-false (eqb (e .isd) d)) refl
+  cancel-due m d l = rw (eqb-same (e .id), lt-ltb (dayOf h) d l, and-false (eqb (e .isd) d)) refl
 
   -- the other days
-  cancel-kept : (m : Measure) → Kept m (dayOf h) (Call.Cancel (e .id) ∷ h) h e
+  cancel-same : (m : Measure) → SamePast m (dayOf h) (Call.Cancel (e .id) ∷ h) h e
   unfolding life dueOf cancelledBefore cancelledOf cancelledOn beforeCancel partSettledOf settledOn beforeClose
-  cancel-kept m = record {
+  cancel-same m = record {
     fails = λ d. refl;
     settled = λ d n. refl;
-    due = λ d l. rw (same (e .id), le-ltb (dayOf h) d l) refl;
-    cancelled = λ d l. rw (same (e .id), ne-eqb (dayOf h) d (omega arith)) refl;
+    due = λ d l. rw (eqb-same (e .id), le-ltb (dayOf h) d l) refl;
+    cancelled = λ d l. rw (eqb-same (e .id), ne-eqb (dayOf h) d (omega arith)) refl;
     part = λ d l. refl;
   }
 
@@ -225,7 +225,7 @@ module _ (h : List Call) (e : Entry) (N : Now h e) (o : 0 < replayed h (e .id) .
       let z = only-zero (leb (e .isd) (dayOf h)) in
       let c = rw (open-rest h e N o) at (cancel-cancelled h e m) in
       let c′ = none-cancelled m h (dayOf h) e (N .live o (dayOf h)) in
-      let v = kept-begins m (dayOf h) (Call.Cancel (e .id) ∷ h) h e (cancel-kept h e m) in
+      let v = same-begins m (dayOf h) (Call.Cancel (e .id) ∷ h) h e (cancel-same h e m) in
       let p = cancel-partNow h e m (dayOf h) in
       let b = rw (lt-ltb 0 (replayed h (e .id) .rest) o) at (N .balanced m .now) in
       omega arith
@@ -241,6 +241,6 @@ module _ (h : List Call) (e : Entry) (N : Now h e) (o : 0 < replayed h (e .id) .
     live = λ l. absurd (let z = ap (λ p. p .rest) (cancel-replayed h e) in omega arith);
     balanced = λ m.
         rw (cancel-replayed h e)
-        (kept-balanced m (dayOf h) (replayed h (e .id) .rest) 0 (Call.Cancel (e .id) ∷ h) h e (cancel-kept h e m) (N .balanced m)
+        (same-balanced m (dayOf h) (replayed h (e .id) .rest) 0 (Call.Cancel (e .id) ∷ h) h e (cancel-same h e m) (N .balanced m)
         (cancel-today m) (λ d l. cancel-due h e m d l ∙ sym (only-zero (eqb (e .isd) d))));
   }
