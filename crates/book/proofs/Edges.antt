@@ -4,23 +4,23 @@ use Prim.Native.Nat.{ℕ, zero, suc, _+_}
 use native.Mathlib.Nat.{zero-add}
 use native.Mathlib.Omega.{arith}
 use mathlib.Core.Path.{_≡_, refl, ap, _∙_}
-use mathlib.Core.Bool.{not}
+use mathlib.Core.Bool.{false, not}
 use mathlib.Core.List.{List, [], _∷_, _++_, map, reverse}
 use lib.ListN.{length, set, replicate, length-replicate}
 use borrow.Author.Tests.{le-leb, lt-leb}
 use Rattle.book.specs.Limits.{cellCount, openLimit, largestId}
-use Rattle.book.specs.Sums.{only, total, All}
+use Rattle.book.specs.Sums.{total, All}
 use Rattle.book.specs.Pairs.{Pair, terms, entered, blank, isOpen}
 use Rattle.rates.specs.Rate.{rate}
 use Rattle.book.specs.Figures.{none, lateFrom, failPosting, failPostings, place, post}
-use Rattle.book.specs.Answers.{Call, answer}
+use Rattle.book.specs.Answers.{Call, isFull, answer}
 use Rattle.book.specs.Calls.{Book, places, firstPlace, openCount, viewOf, answerOf, freshBook}
 use Rattle.book.specs.Calls.{postings, pairsAfter, afterAccepted, after}
 use Rattle.book.specs.Rows.{cellOf, rowAnswer}
 use Rattle.book.specs.History.{Event}
 use Rattle.book.specs.Balance.{State, step, run, afterCalls}
 use Rattle.book.specs.Edges.{entry, enterOf, enters, answersOf, example}
-use Rattle.book.specs.Edges.{Case, givesNumbers, givesWhenFull, givesRow, givesRate, Holds, cases}
+use Rattle.book.specs.Edges.{Case, givesNumbers, givesWhenFull, givesRow, givesRate, Claim, cases}
 use Rattle.book.proofs.Theorems.Sums.{total-replicate, all-map}
 use Rattle.book.proofs.Theorems.Places.{places-all}
 
@@ -81,7 +81,7 @@ places-entered n k h =
 -- and n pairs are open
 count-entered : (n k : ℕ) → n + k ≡ openLimit → openCount (places (enteredPairs n (replicate k blank))) ≡ n
 count-entered n k h =
-    let none-open = total-replicate (λ p. only (isOpen p) 1) k blank refl in
+    let none-open : openCount (replicate k blank) ≡ 0 = total-replicate _ k blank refl in
     rw (places-entered n k h, open-entered n (replicate k blank), none-open) (omega arith)
 
 -- the next enter is accepted
@@ -91,8 +91,8 @@ accepted-entered n k h =
     let low = le-leb 1 (suc n) (omega arith) in
     let high = le-leb (suc n) largestId (omega arith) in
     let above = lt-leb (suc n) n (omega arith) in
-    let room = lt-leb openLimit n (omega arith) in
-    rw (count-entered n (suc k) h, low, high, above, room)
+    let room : isFull (viewOf (enteredBook n (suc k))) ≡ false = rw (count-entered n (suc k) h) (lt-leb openLimit n (omega arith)) in
+    rw (low, high, above, room)
 
 -- and takes the next place
 step-entered : (n k : ℕ) → n + suc k ≡ openLimit → step (enteredState n (suc k)) (enterOf (suc n)) ≡ enteredState (suc n) k
@@ -114,7 +114,8 @@ run-entered (suc n) k h further =
 
 -- The state after calls. To unfold it is to unfold all that it computes with.
 unfoldable pub computed : List Call → State
-unfolding afterCalls freshBook run step after afterAccepted pairsAfter postings viewOf answer places firstPlace lateFrom failPosting failPostings place post
+unfolding afterCalls freshBook run step after afterAccepted pairsAfter postings viewOf answer places firstPlace
+    lateFrom failPosting failPostings place post
 computed calls = afterCalls calls
 
 -- the numbers that came back, in the order of the calls
@@ -123,22 +124,48 @@ answered s = reverse (map (λ x. x .answer) (s .history))
 
 -- what a case claims, after 1,024 enters from the book that these leave
 abbrev pub Computes : Case → Type 0
-Computes (givesNumbers calls numbers) = Holds (givesNumbers calls numbers)
+Computes (givesNumbers calls numbers) = Claim (givesNumbers calls numbers)
 Computes (givesWhenFull calls numbers) = answered (run (enteredState 1024 0) calls) ≡ replicate 1024 0 ++ numbers
-Computes (givesRow calls day category r) = Holds (givesRow calls day category r)
-Computes (givesRate fails total r) = Holds (givesRate fails total r)
+Computes (givesRow calls day category r) = Claim (givesRow calls day category r)
+Computes (givesRate fails total r) = Claim (givesRate fails total r)
 
 -- What is computed is what the case claims.
-pub holds : (c : Case) → Computes c → Holds c
+pub claimed : (c : Case) → Computes c → Claim c
 unfolding answersOf
-holds (givesNumbers calls numbers) h = h
-holds (givesWhenFull calls numbers) h = ap answered (run-entered 1024 0 refl calls) ∙ h
-holds (givesRow calls day category r) h = h
-holds (givesRate fails total r) h = h
+claimed (givesNumbers calls numbers) h = h
+claimed (givesWhenFull calls numbers) h = ap answered (run-entered 1024 0 refl calls) ∙ h
+claimed (givesRow calls day category r) h = h
+claimed (givesRate fails total r) h = h
 
 -- Every case of the list holds.
-pub edges : All Holds cases
+pub edges : All Claim cases
 unfolding cases example computed cellOf rowAnswer rate answersOf
 edges =
-    all-map Computes Holds holds cases
-    (refl, (refl, (refl, (refl, (refl, (refl, (refl, (refl, (refl, (refl, (refl, (refl, (refl, (refl, (refl, (refl, (refl, (refl, tt))))))))))))))))))
+    all-map Computes Claim claimed cases (
+      refl,
+      (
+        refl,
+        (
+          refl,
+          (
+            refl,
+            (
+              refl,
+              (
+                refl,
+                (
+                  refl,
+                  (
+                    refl,
+                    (
+                      refl,
+                      (refl, (refl, (refl, (refl, (refl, (refl, (refl, (refl, (refl, tt))))))))),
+                    ),
+                  ),
+                ),
+              ),
+            ),
+          ),
+        ),
+      ),
+    )

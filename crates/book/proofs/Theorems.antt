@@ -21,6 +21,7 @@ pub mod Ties
 pub mod Journal
 pub mod Cells
 pub mod Bounds
+pub mod Posted
 pub mod Counting
 -- so the rows balance, and no sum reaches its cap
 pub mod Demand3

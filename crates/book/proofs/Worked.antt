@@ -8,10 +8,10 @@ use Rattle.book.specs.Rows.{cellOf}
 use Rattle.book.specs.History.{Measure, acceptedCalls, dayOf, closed, pairs, parts, dueOf, cancelledOf, partSettledOf}
 use Rattle.book.specs.History.{settledOn, cancelledBefore, cancelledOn, beforeCancel, beforeClose}
 use Rattle.book.specs.Balance.{afterCalls, bookAfter, acceptedOf, Balances}
-use Rattle.book.specs.Edges.{Holds, givesWhenFull}
+use Rattle.book.specs.Edges.{Claim, givesWhenFull}
 use Rattle.book.specs.Worked.{callsOf, numbersOf, worked, workedToEnd, workedWhenFull, readingsOf, workedReadings}
 use Rattle.book.specs.Worked.{leftSide, rightSide, figuresFor, workedFigures}
-use Rattle.book.proofs.Edges.{computed, holds}
+use Rattle.book.proofs.Edges.{computed, claimed}
 
 -- ---- the numbers that come back
 
@@ -26,9 +26,9 @@ unfolding workedToEnd computed
 worked-to-end = refl
 
 -- each call after 1,024 enters
-pub worked-when-full : Holds (givesWhenFull (callsOf workedWhenFull) (numbersOf workedWhenFull))
+pub worked-when-full : Claim (givesWhenFull (callsOf workedWhenFull) (numbersOf workedWhenFull))
 unfolding workedWhenFull computed
-worked-when-full = holds (givesWhenFull (callsOf workedWhenFull) (numbersOf workedWhenFull)) refl
+worked-when-full = claimed (givesWhenFull (callsOf workedWhenFull) (numbersOf workedWhenFull)) refl
 
 -- ---- what is read, and the rows
 

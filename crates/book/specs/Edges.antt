@@ -64,11 +64,11 @@ pub data Case : Type 0 where
   givesRate : ℕ → ℕ → ℕ → Case
 
 -- what a case claims
-abbrev pub Holds : Case → Type 0
-Holds (givesNumbers calls numbers) = answersOf calls ≡ numbers
-Holds (givesWhenFull calls numbers) = answersOf (enters 1024 calls) ≡ replicate 1024 0 ++ numbers
-Holds (givesRow calls day category r) = rowAnswer (bookAfter calls) day category ≡ figures r
-Holds (givesRate fails total r) = rate fails total ≡ r
+abbrev pub Claim : Case → Type 0
+Claim (givesNumbers calls numbers) = answersOf calls ≡ numbers
+Claim (givesWhenFull calls numbers) = answersOf (enters 1024 calls) ≡ replicate 1024 0 ++ numbers
+Claim (givesRow calls day category r) = rowAnswer (bookAfter calls) day category ≡ figures r
+Claim (givesRate fails total r) = rate fails total ≡ r
 
 -- ---- the cases
 

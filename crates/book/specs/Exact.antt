@@ -8,7 +8,7 @@ use Rattle.book.specs.Answers.{Call}
 use Rattle.book.specs.Calls.{Book}
 use Rattle.book.specs.Rows.{cellOf, rowOf}
 use Rattle.book.specs.History.{Measure, number, value}
-use Rattle.book.specs.Balance.{bookAfter, inMeasure}
+use Rattle.book.specs.Balance.{bookAfter, inMeasure, failsOf}
 use Rattle.book.specs.Counted.{Column, column}
 
 -- The most that a row can total. At most 65,535 pairs are accepted; on a day each has 2 SIs settled and 2 failing at
@@ -29,14 +29,14 @@ pub record Exact (b : Book) : Type 0 where
   -- total is settled + securities fails + cash fails
   pub totals : (m : Measure) (day category : ℕ) → day < dayLimit → category ≤ 9
       → totalOn m b category day
-      ≡ inMeasure m (rowOf b day category .settled) + inMeasure m (rowOf b day category .securities) + inMeasure m (rowOf b day category .cash)
+      ≡ inMeasure m (rowOf b day category .settled) + failsOf m b day category
   -- category 0 is the sum of categories 1 to 9
   pub categories : (figure : Column) (day : ℕ) → day < dayLimit
       → column figure (cellOf (b .cells) day 0) ≡ sumFrom (λ c. column figure (cellOf (b .cells) day c)) 1 9
   pub rows : (m : Measure) (day category : ℕ) → day < dayLimit → category ≤ 9 → totalOn m b category day ≤ most m
   -- ISD value is a part of the fails
   pub isdValues : (day category : ℕ) → day < dayLimit → category ≤ 9
-      → rowOf b day category .«isd_value» ≤ inMeasure value (rowOf b day category .securities) + inMeasure value (rowOf b day category .cash)
+      → rowOf b day category .«isd_value» ≤ failsOf value b day category
   pub runs : (m : Measure) (category first n : ℕ) → first + n ≤ dayLimit → category ≤ 9
       → sumFrom (totalOn m b category) first n ≤ n * most m
 

@@ -85,8 +85,8 @@ unfoldable pub parts : List Call → ℕ → ℕ
 parts [] i = zero
 parts (c ∷ h) i = let before = parts h i in cond (settles i c) (partOf c + before) before
 
--- Its rest at a call is its amount less the parts of the accepted settles of its id before that call, whether or not
--- it was cancelled: here at a call that follows h.
+-- Its rest, a term of document 01, at a call is its amount less the parts of the accepted settles of its id before that
+-- call, whether or not it was cancelled: here at a call that follows h.
 abbrev pub restOf : List Call → Entry → ℕ
 restOf h e = e .amount - parts h (e .id)
 
@@ -129,6 +129,8 @@ twoSIs value v = 2 * v
 abbrev pub twoMore : Measure → ℕ
 twoMore number = 2
 twoMore value = 0
+
+-- Document 01 coins 'newly due', 'cancelled' and 'part-settled' for the three readings below.
 
 -- Newly due on a day: the pairs with that ISD and no accepted cancel on an earlier day, late ones too, 2 SIs and twice
 -- the amount each.

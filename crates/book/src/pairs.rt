@@ -22,7 +22,7 @@ pub enum Holds {
     Both,
 }
 
-// What the pair lacks, 0 nothing, 1 securities, 2 cash.
+// What the pair lacks, 0 nothing, 1 securities, 2 cash. The lack is document 01's term for a cause without a hold.
 pub enum Lack {
     Nothing,
     Securities,
@@ -49,8 +49,9 @@ pub struct Terms {
     pub side: Side,
 }
 
-// An accepted pair. It is open while its rest is above 0. `last_part` is the day after the one on which its
-// last part settled, 0 where none has: a new day then needs no write to the pair.
+// An accepted pair. Its rest, a term of document 01, is the amount less the parts settled; it is open while that is
+// above 0. `last_part` is the day after the one on which its last part settled, 0 where none has: a new day then needs
+// no write to the pair.
 pub struct Pair {
     pub terms: Terms,
     pub rest: u64,

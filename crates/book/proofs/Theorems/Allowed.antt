@@ -1,4 +1,5 @@
--- What it says that a call is accepted: none of its refusals applies. Assumes nothing.
+-- What it says that a call is accepted: none of its refusals applies, so each of its conditions holds, read one after
+-- another off the answer 0. Assumes nothing.
 use Prim.Native.Nat.{ℕ, suc, _≤_, _<_}
 use native.Mathlib.Omega.{arith}
 use mathlib.Core.Path.{_≡_, refl}
@@ -11,24 +12,32 @@ use Rattle.book.specs.Pairs.{Entry, inRange, isOpen}
 use Rattle.book.specs.Answers.{Call, View, refused, isFinished, isSpent, isFull, notOpen, notDue, onHold, wrongPart, answer}
 use Rattle.book.proofs.Theorems.Sums.{tests, and-true, or-false}
 
+-- ---- the conditions of each call
+
+-- one of the nine categories of pairs
+abbrev pub IsCategory : ℕ → Type 0
+IsCategory c = (1 ≤ c) × (c ≤ 9)
+
 -- each value of an enter is in its range
 pub record Ranges (e : Entry) : Type 0 where
   pub id : (1 ≤ e .id) × (e .id ≤ largestId)
-  pub category : (1 ≤ e .category) × (e .category ≤ 9)
+  pub category : IsCategory (e .category)
   pub isd : e .isd < dayLimit
   pub amount : (1 ≤ e .amount) × (e .amount ≤ largestAmount)
 
+-- an enter: its id is above all accepted ones, and fewer than 1,024 pairs are open
 pub record EnterAllowed (v : View) (e : Entry) : Type 0 where
   pub running : v .today < dayLimit
   pub ranges : Ranges e
   pub above : v .highest < e .id
   pub room : v .count < openLimit
 
--- hold, lack and cancel
+-- a hold, a lack or a cancel: its id is open
 pub record OpenAllowed (v : View) (id : ℕ) : Type 0 where
   pub running : v .today < dayLimit
   pub isOpen : isOpen (v .pair id) ≡ true
 
+-- a settle: its id is open and due, and its part is from 1 to the rest
 pub record SettleAllowed (v : View) (id part : ℕ) : Type 0 where
   pub running : v .today < dayLimit
   pub isOpen : isOpen (v .pair id) ≡ true
@@ -36,6 +45,7 @@ pub record SettleAllowed (v : View) (id part : ℕ) : Type 0 where
   pub some : 1 ≤ part
   pub most : part ≤ v .pair id .rest
 
+-- any call, and a close on one of the 64 days
 abbrev pub Allowed : View → Call → Type 0
 Allowed v (Call.Enter e) = EnterAllowed v e
 Allowed v (Call.Hold id side on) = OpenAllowed v id
@@ -43,6 +53,8 @@ Allowed v (Call.Lack id lack) = OpenAllowed v id
 Allowed v (Call.Settle id part) = SettleAllowed v id part
 Allowed v (Call.Cancel id) = OpenAllowed v id
 Allowed v Call.Close = v .today < dayLimit
+
+-- ---- an accepted call has them
 
 -- where no number comes back, the first condition fails and no later number comes back
 not-refused : (t : Bool) (n later : ℕ) → refused t (suc n) later ≡ 0 → (t ≡ false) × (later ≡ 0)
@@ -54,6 +66,7 @@ from-within : (low high n : ℕ) → within low high n ≡ true → (low ≤ n) 
 from-within low high n h =
     let b = and-true (leb low n) (leb n high) h in (leb-true low n (b .0), leb-true n high (b .1))
 
+-- an enter that passes the test of its ranges has each value in its range
 in-ranges : (e : Entry) → inRange e ≡ true → Ranges e
 in-ranges e h =
     let r5 = and-true _ (within 1 largestAmount (e .amount)) h in

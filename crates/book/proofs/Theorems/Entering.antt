@@ -11,7 +11,7 @@ use borrow.Author.Tests.{eqb-true, ne-eqb, le-ltb, lt-ltb, le-leb, lt-leb}
 use Rattle.book.specs.Sums.{only}
 use Rattle.book.specs.SideOfFail.{sidesWhenLate}
 use Rattle.book.specs.Pairs.{Entry, Terms, terms, entered}
-use Rattle.book.specs.Figures.{Cell, failFigures, lateFrom}
+use Rattle.book.specs.Figures.{Cell, failFigures, lateFrom, latePostings}
 use Rattle.book.specs.Answers.{Call}
 use Rattle.book.specs.History.{
   dayOf,
@@ -73,13 +73,16 @@ late-posted f x e k zero day d = go (leb day d) refl
     go false l = refl
 late-posted f x e k (suc n) day d = rw (k (eqb day (e .isd)), late-posted f x e k n (suc day) d) (days n day d x)
 
--- the late days are those from the ISD on, before today
-late-days : (isd t d : ℕ) → (leb isd d && ltb d (isd + (t - isd))) ≡ (leb isd d && ltb d t)
-late-days isd t d = go (leb isd d) refl (ltb d t) refl
+-- a late pair is posted on each day from its ISD to yesterday, where a figure gets x of each
+late-days : (f : Cell → ℕ) (x : ℕ) (e : Terms)
+    → ((o : Bool) → f (failFigures (sidesWhenLate (e .kind) (e .side)) (e .amount) o) ≡ x)
+    → (today d : ℕ) → postedOn f d (latePostings today e) ≡ only (leb (e .isd) d && ltb d today) x
+late-days f x e k today d =
+    late-posted f x e k (today - e .isd) (e .isd) d ∙ ap (λ t. only t x) (go (leb (e .isd) d) refl (ltb d today) refl)
   where
-    go : (a : Bool) → leb isd d ≡ a → (b : Bool) → ltb d t ≡ b → (a && ltb d (isd + (t - isd))) ≡ (a && b)
-    go true p true q = lt-ltb d (isd + (t - isd)) (omega (arith, tests))
-    go true p false q = le-ltb d (isd + (t - isd)) (omega (arith, tests))
+    go : (a : Bool) → leb (e .isd) d ≡ a → (b : Bool) → ltb d today ≡ b → (a && ltb d (e .isd + (today - e .isd))) ≡ (a && b)
+    go true p true q = lt-ltb d (e .isd + (today - e .isd)) (omega (arith, tests))
+    go true p false q = le-ltb d (e .isd + (today - e .isd)) (omega (arith, tests))
     go false p b q = refl
 
 -- ---- the readings after the enter
@@ -89,17 +92,15 @@ module _ (m : Measure) (h : List Call) (e : Entry) (U : Unused h (e .id)) where
   enter-settled : (d : ℕ) → settledBy m (Call.Enter e ∷ h) (e .id) d ≡ 0
   enter-settled d =
       ap (postedOn (settledIn m) d) (entered-life h e U)
-      ∙ late-posted (settledIn m) 0 (terms e) (fails-settle-none m (sidesWhenLate (terms e .kind) (terms e .side)) (e .amount))
-      (dayOf h - e .isd) (e .isd) d
-      ∙ only-zero (leb (e .isd) d && ltb d (e .isd + (dayOf h - e .isd)))
+      ∙ late-days (settledIn m) 0 (terms e) (fails-settle-none m (sidesWhenLate (terms e .kind) (terms e .side)) (e .amount)) (dayOf h) d
+      ∙ only-zero (leb (e .isd) d && ltb d (dayOf h))
 
   -- it failed on each day from its ISD to yesterday, and on no other
   enter-fails : (d : ℕ) → failsBy m (Call.Enter e ∷ h) (e .id) d ≡ only (leb (e .isd) d && ltb d (dayOf h)) (twoSIs m (e .amount))
   enter-fails d =
       ap (postedOn (failsIn m) d) (entered-life h e U)
-      ∙ late-posted (failsIn m) (twoSIs m (e .amount)) (terms e)
-      (fails-two m (sidesWhenLate (terms e .kind) (terms e .side)) (e .amount)) (dayOf h - e .isd) (e .isd) d
-      ∙ ap (λ t. only t (twoSIs m (e .amount))) (late-days (e .isd) (dayOf h) d)
+      ∙ late-days (failsIn m) (twoSIs m (e .amount)) (terms e)
+      (fails-two m (sidesWhenLate (terms e .kind) (terms e .side)) (e .amount)) (dayOf h) d
 
   -- by yesterday that is each day from its ISD on
   enter-failed : (d : ℕ) → d < dayOf h → failsBy m (Call.Enter e ∷ h) (e .id) d ≡ only (leb (e .isd) d) (twoSIs m (e .amount))

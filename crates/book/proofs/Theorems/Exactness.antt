@@ -1,5 +1,5 @@
 -- No sum reaches its cap: the pairs together give so little on a day that each total, also over all days, is the plain
--- sum. Assumes nothing.
+-- sum of what settled and what failed. Assumes nothing.
 use Prim.Native.Nat.{ℕ, zero, suc, _+_, _*_, _≤_, _<_}
 use native.Mathlib.Nat.{suc-mul}
 use native.Mathlib.Omega.{arith}
@@ -10,7 +10,7 @@ use Rattle.book.specs.Limits.{dayLimit}
 use Rattle.book.specs.Answers.{Call}
 use Rattle.book.specs.Rows.{rowOf}
 use Rattle.book.specs.History.{Measure, number, value, counts}
-use Rattle.book.specs.Balance.{bookAfter, acceptedOf, inMeasure}
+use Rattle.book.specs.Balance.{bookAfter, acceptedOf, inMeasure, failsOf}
 use Rattle.book.specs.Counted.{isdValue}
 use Rattle.book.specs.Exact.{most, sumFrom, totalOn, Exact, NoCapReached}
 use Rattle.book.proofs.Theorems.Lived.{settledIn, failsIn}
@@ -19,27 +19,48 @@ use Rattle.book.proofs.Theorems.Bounds.{isd-in-fails}
 use Rattle.book.proofs.Theorems.Counting.{counted-add, counted-most, rows-lives, categories-sum}
 use Rattle.book.proofs.Theorems.Demand3.{settled-row, fails-row}
 
+-- ---- one row
+
 module _ (calls : List Call) where
-  plain-sum : (m : Measure) (day category : ℕ) → day < dayLimit → category ≤ 9
-      → inMeasure m (rowOf (bookAfter calls) day category .settled) + inMeasure m (rowOf (bookAfter calls) day category .securities)
-      + inMeasure m (rowOf (bookAfter calls) day category .cash) ≤ most m
-  plain-sum m day category l nine =
+  -- what settled and what failed, added up
+  abbrev plain : Measure → ℕ → ℕ → ℕ
+  plain m day category = inMeasure m (rowOf (bookAfter calls) day category .settled) + failsOf m (bookAfter calls) day category
+
+  -- that is no more than the most of a row
+  plain-most : (m : Measure) (day category : ℕ) → day < dayLimit → category ≤ 9 → plain m day category ≤ most m
+  plain-most m day category l nine =
       let s = settled-row calls m category nine day l in
       let f = fails-row calls m category nine day l in
       let a = counted-add (settledIn m) (failsIn m) (λ e. counts category (e .category)) (acceptedOf calls) day in
       let b = counted-most m (λ e. counts category (e .category)) (acceptedOf calls) (kept calls .proper) day in
       omega arith
 
+  -- so it is the total of the row
   totals : (m : Measure) (day category : ℕ) → day < dayLimit → category ≤ 9
-      → totalOn m (bookAfter calls) category day
-      ≡ inMeasure m (rowOf (bookAfter calls) day category .settled) + inMeasure m (rowOf (bookAfter calls) day category .securities)
-      + inMeasure m (rowOf (bookAfter calls) day category .cash)
-  totals number day category l nine = let a = plain-sum number day category l nine in omega arith
-  totals value day category l nine = let a = plain-sum value day category l nine in omega arith
+      → totalOn m (bookAfter calls) category day ≡ plain m day category
+  totals number day category l nine = let a = plain-most number day category l nine in omega arith
+  totals value day category l nine = let a = plain-most value day category l nine in omega arith
 
-  rows-most : (m : Measure) (day category : ℕ) → day < dayLimit → category ≤ 9 → totalOn m (bookAfter calls) category day ≤ most m
-  rows-most m day category l nine = let a = plain-sum m day category l nine in let b = totals m day category l nine in omega arith
+  -- the total of a row is no more than the most
+  rows-most : (m : Measure) (day category : ℕ) → day < dayLimit → category ≤ 9
+      → totalOn m (bookAfter calls) category day ≤ most m
+  rows-most m day category l nine =
+      let a = plain-most m day category l nine in
+      let b = totals m day category l nine in
+      omega arith
 
+  -- ISD value is a part of the fails
+  isd-most : (day category : ℕ) → day < dayLimit → category ≤ 9
+      → rowOf (bookAfter calls) day category .«isd_value» ≤ failsOf value (bookAfter calls) day category
+  isd-most day category l nine =
+      let a = rows-lives calls isdValue day category l nine in
+      let b = isd-in-fails (λ e. counts category (e .category)) (acceptedOf calls) day in
+      let f = fails-row calls value category nine day l in
+      omega arith
+
+  -- ---- all rows
+
+  -- the totals of n days are no more than n times the most
   runs-most : (m : Measure) (category first n : ℕ) → first + n ≤ dayLimit → category ≤ 9
       → sumFrom (totalOn m (bookAfter calls) category) first n ≤ n * most m
   runs-most m category first zero l nine = omega arith
@@ -49,15 +70,7 @@ module _ (calls : List Call) where
       let s = suc-mul n (most m) in
       omega arith
 
-  isd-most : (day category : ℕ) → day < dayLimit → category ≤ 9
-      → rowOf (bookAfter calls) day category .«isd_value»
-      ≤ inMeasure value (rowOf (bookAfter calls) day category .securities) + inMeasure value (rowOf (bookAfter calls) day category .cash)
-  isd-most day category l nine =
-      let a = rows-lives calls isdValue day category l nine in
-      let b = isd-in-fails (λ e. counts category (e .category)) (acceptedOf calls) day in
-      let f = fails-row calls value category nine day l in
-      omega arith
-
+  -- the sums of the book are exact
   exact : Exact (bookAfter calls)
   exact = record {
     totals = totals;
@@ -67,5 +80,6 @@ module _ (calls : List Call) where
     runs = runs-most;
   }
 
+-- After every list of calls no sum has reached its cap.
 pub no-cap-reached : NoCapReached
 no-cap-reached = (exact, lit< tt)

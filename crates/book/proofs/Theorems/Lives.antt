@@ -111,7 +111,8 @@ settle-own h e q A N =
     settle-now h e q N (omega arith) (A .some) (omega arith)
 
 -- an accepted settle, of whichever pair
-settle-step : (id part : ℕ) (h : List Call) → SettleAllowed (viewOfCalls h) id part → (e : Entry) → Now h e → Now (Call.Settle id part ∷ h) e
+settle-step : (id part : ℕ) (h : List Call) → SettleAllowed (viewOfCalls h) id part → (e : Entry) → Now h e
+    → Now (Call.Settle id part ∷ h) e
 settle-step id part h A e N = go (eqb id (e .id)) refl
   where
     go : (t : Bool) → eqb id (e .id) ≡ t → Now (Call.Settle id part ∷ h) e

@@ -141,8 +141,10 @@ none-cancelled m h d e n = rw (n, and-false (leb (e .isd) d)) refl
 not-latest : (c : Call) (h : List Call) (i : ℕ) → ((d : ℕ) → cancelledOn (c ∷ h) d i ≡ false)
     → (cancels i c ≡ false) × ((d : ℕ) → cancelledOn h d i ≡ false)
 unfolding cancelledOn
-not-latest c h i n =
-    (go (cancels i c) (rw (eqb-same (dayOf h)) at (n (dayOf h))), λ d. or-false (cancels i c && eqb (dayOf h) d) (cancelledOn h d i) (n d) .1)
+not-latest c h i n = (
+  go (cancels i c) (rw (eqb-same (dayOf h)) at (n (dayOf h))),
+  λ d. or-false (cancels i c && eqb (dayOf h) d) (cancelledOn h d i) (n d) .1,
+)
   where
     go : (t : Bool) → (t && true || cancelledOn h (dayOf h) i) ≡ false → t ≡ false
     go true k = clash refl k
@@ -192,7 +194,8 @@ same-begins m today g h e K =
     let u = K .due today (le-refl today) in
     omega arith
 
-module _ (m : Measure) (today rest after : ℕ) (g h : List Call) (e : Entry) (K : SamePast m today g h e) (B : Balanced m today rest h e) where
+module _ (m : Measure) (today rest after : ℕ) (g h : List Call) (e : Entry) (K : SamePast m today g h e)
+    (B : Balanced m today rest h e) where
   -- past days still balance
   same-past : (d : ℕ) → d < today → BalancesOn d m g e
   same-past d l =

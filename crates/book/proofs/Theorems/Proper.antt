@@ -1,5 +1,5 @@
--- A list of accepted calls is proper where each of them was allowed by those before it. Then ids rise: an id above all
--- accepted ones was never used, and an accepted one has one pair. Assumes nothing.
+-- A list of accepted calls is proper where each of them was allowed by those before it. Then ids rise, from call to call:
+-- an id above all accepted ones was never used, and a call on another id leaves a pair alone. Assumes nothing.
 use Prim.Native.Nat.{ℕ, _<_}
 use native.Mathlib.Omega.{arith}
 use mathlib.Core.Path.{_≡_, refl, _∙_}
@@ -7,29 +7,44 @@ use mathlib.Core.Bool.{Bool, true, false, cond}
 use mathlib.Core.List.{List, [], _∷_, append-nil}
 use lib.Dec.{eqb}
 use borrow.Author.Tests.{ne-eqb, eq-eqb}
-use Rattle.book.specs.Sums.{only, total}
 use Rattle.book.specs.Pairs.{Entry, Pair, blank, isOpen, terms}
 use Rattle.book.specs.Figures.{latePostings, failPostings}
 use Rattle.book.specs.Answers.{Call, answer}
-use Rattle.book.specs.History.{isClose, dayOf, pairs, parts, settledOn, cancelledBefore, cancelledOn, beforeCancel}
+use Rattle.book.specs.History.{
+  isClose,
+  dayOf,
+  pairs,
+  parts,
+  settledOn,
+  cancelledBefore,
+  cancelledOn,
+  beforeCancel,
+  sumOver,
+}
 use Rattle.book.specs.Counted.{replayed, life, highestId, openOnly, viewOfCalls}
 use Rattle.book.proofs.Theorems.Sums.{clash}
 use Rattle.book.proofs.Theorems.Allowed.{Allowed, allowed}
 
+-- each call, the latest first, gets the answer 0 from those before it
 abbrev pub Proper : List Call → Type 0
 Proper [] = Unit
 Proper (c ∷ h) = (answer (viewOfCalls h) c ≡ 0) × Proper h
 
 -- ---- the pair of an id
 
-pub openOnly-open : (p : Pair) → isOpen (openOnly p) ≡ true → (isOpen p ≡ true) × (openOnly p ≡ p)
+-- what the accepted pairs with id i weigh together
+abbrev pub weightOf : (Entry → ℕ) → List Call → ℕ → ℕ
+weightOf w h i = sumOver (λ e. eqb i (e .id)) w (pairs h)
+
+-- an open pair that was found is the pair itself
+openOnly-open : (p : Pair) → isOpen (openOnly p) ≡ true → (isOpen p ≡ true) × (openOnly p ≡ p)
 openOnly-open p h = go (isOpen p) refl h
   where
     go : (t : Bool) → isOpen p ≡ t → isOpen (cond t p blank) ≡ true → (isOpen p ≡ true) × (cond t p blank ≡ p)
     go true e k = (e, refl)
     go false e k = clash k refl
 
--- what an accepted call on an id says of the pair replayed
+-- the open pair of an id is the pair replayed
 pub open-replayed : (h : List Call) (i : ℕ) → isOpen (viewOfCalls h .pair i) ≡ true
     → (isOpen (replayed h i) ≡ true) × (viewOfCalls h .pair i ≡ replayed h i)
 unfolding viewOfCalls
@@ -56,6 +71,7 @@ pub record Untouched (c : Call) (h : List Call) (i : ℕ) : Type 0 where
   pub cancelOn : (d : ℕ) → cancelledOn (c ∷ h) d i ≡ cancelledOn h d i
   pub cancelFrom : (d : ℕ) → beforeCancel (c ∷ h) d i ≡ beforeCancel h d i
 
+-- a call that names another id, and is no close, leaves them
 pub untouched : (c : Call) (h : List Call) (i : ℕ) → isClose c ≡ false → concerns i c ≡ false → Untouched c h i
 unfolding replayed life parts settledOn cancelledBefore cancelledOn beforeCancel
 untouched (Call.Enter e) h i k n = record {
@@ -107,8 +123,9 @@ untouched Call.Close h i k n = clash refl k
 
 -- ---- an id that no accepted call has
 
+-- the readings of id i are those of an empty list
 pub record Unused (h : List Call) (i : ℕ) : Type 0 where
-  pub noPair : (w : Entry → ℕ) → total (λ e. only (eqb i (e .id)) (w e)) (pairs h) ≡ 0
+  pub noPair : (w : Entry → ℕ) → weightOf w h i ≡ 0
   pub noReplay : replayed h i ≡ blank
   pub noLife : life h i ≡ []
   pub noPart : parts h i ≡ 0
@@ -116,8 +133,9 @@ pub record Unused (h : List Call) (i : ℕ) : Type 0 where
   pub noCancelBefore : (d : ℕ) → cancelledBefore h d i ≡ false
   pub noCancelOn : (d : ℕ) → cancelledOn h d i ≡ false
 
-unused-untouched : (c : Call) (h : List Call) (i : ℕ) → Untouched c h i
-    → ((w : Entry → ℕ) → total (λ e. only (eqb i (e .id)) (w e)) (pairs (c ∷ h)) ≡ 0) → Unused h i → Unused (c ∷ h) i
+-- a call that leaves its readings, and enters no pair of it, leaves it unused
+unused-untouched : (c : Call) (h : List Call) (i : ℕ) → Untouched c h i → ((w : Entry → ℕ) → weightOf w (c ∷ h) i ≡ 0)
+    → Unused h i → Unused (c ∷ h) i
 unused-untouched c h i S new U = record {
   noPair = new;
   noReplay = S .replay ∙ U .noReplay;
@@ -128,12 +146,14 @@ unused-untouched c h i S new U = record {
   noCancelOn = λ d. S .cancelOn d ∙ U .noCancelOn d;
 }
 
+-- an enter of a lower id leaves it unused
 unused-enter : (e : Entry) (h : List Call) (i : ℕ) → e .id < i → Unused h i → Unused (Call.Enter e ∷ h) i
 unfolding pairs
 unused-enter e h i l U =
     unused-untouched (Call.Enter e) h i (untouched (Call.Enter e) h i refl (ne-eqb (e .id) i (omega arith)))
     (λ w. rw (ne-eqb i (e .id) (omega arith)) (let s = U .noPair w in omega arith)) U
 
+-- a close leaves it unused
 unused-close : (h : List Call) (i : ℕ) → Unused h i → Unused (Call.Close ∷ h) i
 unfolding pairs replayed life parts settledOn cancelledBefore cancelledOn failPostings
 unused-close h i U = record {
@@ -146,29 +166,29 @@ unused-close h i U = record {
   noCancelOn = U .noCancelOn;
 }
 
--- the life of a pair that is entered now is its late days
-pub entered-life : (h : List Call) (e : Entry) → Unused h (e .id) → life (Call.Enter e ∷ h) (e .id) ≡ latePostings (dayOf h) (terms e)
-unfolding life
-entered-life h e U = rw (eq-eqb (e .id) (e .id) refl, U .noLife) (append-nil (latePostings (dayOf h) (terms e)))
-
--- an accepted call on an open pair has another id
+-- an open pair has another id
 not-used : (h : List Call) (i id : ℕ) → Unused h i → isOpen (viewOfCalls h .pair id) ≡ true → eqb id i ≡ false
 not-used h i id U o = ne-eqb id i (λ same. clash (open-replayed h id o .0) (rw same (rw (U .noReplay) refl)))
 
+-- a call on an open pair leaves it unused
+unused-open : (c : Call) (h : List Call) (i id : ℕ)
+    → isClose c ≡ false → concerns i c ≡ eqb id i → pairs (c ∷ h) ≡ pairs h
+    → isOpen (viewOfCalls h .pair id) ≡ true → Unused h i → Unused (c ∷ h) i
+unused-open c h i id k names same o U =
+    unused-untouched c h i (untouched c h i k (names ∙ not-used h i id U o)) (λ w. rw same (U .noPair w)) U
+
+-- any accepted call leaves it unused where it is above all accepted ids
 unused-step : (c : Call) (h : List Call) → Allowed (viewOfCalls h) c → (i : ℕ) → highestId (pairs (c ∷ h)) < i
     → (highestId (pairs h) < i → Unused h i) → Unused (c ∷ h) i
 unfolding pairs
 unused-step (Call.Enter e) h A i l U = unused-enter e h i (omega arith) (U (omega arith))
-unused-step (Call.Hold id side on) h A i l U =
-    let c = Call.Hold id side on in unused-untouched c h i (untouched c h i refl (not-used h i id (U l) (A .isOpen))) (U l .noPair) (U l)
-unused-step (Call.Lack id lack) h A i l U =
-    let c = Call.Lack id lack in unused-untouched c h i (untouched c h i refl (not-used h i id (U l) (A .isOpen))) (U l .noPair) (U l)
-unused-step (Call.Settle id part) h A i l U =
-    let c = Call.Settle id part in unused-untouched c h i (untouched c h i refl (not-used h i id (U l) (A .isOpen))) (U l .noPair) (U l)
-unused-step (Call.Cancel id) h A i l U =
-    let c = Call.Cancel id in unused-untouched c h i (untouched c h i refl (not-used h i id (U l) (A .isOpen))) (U l .noPair) (U l)
+unused-step (Call.Hold id side on) h A i l U = unused-open (Call.Hold id side on) h i id refl refl refl (A .isOpen) (U l)
+unused-step (Call.Lack id lack) h A i l U = unused-open (Call.Lack id lack) h i id refl refl refl (A .isOpen) (U l)
+unused-step (Call.Settle id part) h A i l U = unused-open (Call.Settle id part) h i id refl refl refl (A .isOpen) (U l)
+unused-step (Call.Cancel id) h A i l U = unused-open (Call.Cancel id) h i id refl refl refl (A .isOpen) (U l)
 unused-step Call.Close h A i l U = unused-close h i (U l)
 
+-- An id above all accepted ones was never used.
 pub unused : (h : List Call) → Proper h → (i : ℕ) → highestId (pairs h) < i → Unused h i
 unfolding pairs replayed life parts settledOn cancelledBefore cancelledOn
 unused [] P i l = record {
@@ -181,3 +201,8 @@ unused [] P i l = record {
   noCancelOn = λ d. refl;
 }
 unused (c ∷ h) P i l = unused-step c h (allowed (viewOfCalls h) c (P .0)) i l (unused h (P .1) i)
+
+-- the life of a pair that is entered now is its late days
+pub entered-life : (h : List Call) (e : Entry) → Unused h (e .id) → life (Call.Enter e ∷ h) (e .id) ≡ latePostings (dayOf h) (terms e)
+unfolding life
+entered-life h e U = rw (eq-eqb (e .id) (e .id) refl, U .noLife) (append-nil (latePostings (dayOf h) (terms e)))

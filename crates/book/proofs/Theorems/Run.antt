@@ -1,5 +1,5 @@
--- Along every list of calls the book mirrors its accepted calls, which are proper; so each answer is the one that the
--- accepted calls give. Assumes nothing.
+-- Along every list of calls the book mirrors its accepted calls, which are proper: a book that mirrors them answers as
+-- they do, so the call that it accepts is allowed by them, and both stay alike. Assumes nothing.
 use Prim.Native.Nat.{ℕ, zero, suc}
 use native.Mathlib.Omega.{arith}
 use mathlib.Core.Path.{_≡_, refl, sym, ap, _∙_, fun-ext}
@@ -9,71 +9,108 @@ use lib.ListN.{getD, set, replicate, length-replicate}
 use lib.Dec.{eqb}
 use borrow.Author.Tests.{not-true}
 use Rattle.book.specs.Limits.{openLimit}
-use Rattle.book.specs.Sums.{only, total}
-use Rattle.book.specs.Pairs.{Entry, Pair, blank, isOpen, terms, withHold, withLack, withPart, ended}
-use Rattle.book.specs.Answers.{Call, View, answer, isAccepted}
-use Rattle.book.specs.Calls.{Book, places, firstPlace, placeOf, pairOf, openCount, viewOf, answerOf, pairsAfter, afterAccepted, after, freshBook}
+use Rattle.book.specs.Sums.{only}
+use Rattle.book.specs.Pairs.{Entry, Pair, blank, isOpen, terms, entered, withHold, withLack, withPart, ended}
+use Rattle.book.specs.Answers.{Call, answer, isAccepted}
+use Rattle.book.specs.Calls.{
+  Book,
+  places,
+  placeOf,
+  pairOf,
+  freePlace,
+  openCount,
+  viewOf,
+  answerOf,
+  pairsAfter,
+  afterAccepted,
+  after,
+  freshBook,
+}
 use Rattle.book.specs.History.{acceptedCalls, dayOf, pairs}
-use Rattle.book.specs.Balance.{State, step, run, afterCalls, bookAfter, acceptedOf}
+use Rattle.book.specs.Balance.{State, step, run, afterCalls}
 use Rattle.book.specs.Counted.{replayed, highestId, openOnly, viewOfCalls}
 use Rattle.book.proofs.Theorems.Sums.{clash, total-replicate}
 use Rattle.book.proofs.Theorems.Allowed.{Allowed, EnterAllowed, allowed}
 use Rattle.book.proofs.Theorems.Proper.{Proper, open-replayed, unused}
-use Rattle.book.proofs.Theorems.Places.{places-all, found-passes, free-found}
-use Rattle.book.proofs.Theorems.Mirror.{once, Placed, pairIn, found, pair-same, placed-changed, placed-entered}
+use Rattle.book.proofs.Theorems.Places.{pairAt, freeIn, places-all, found-passes, free-found}
+use Rattle.book.proofs.Theorems.Mirror.{
+  once,
+  replayedWeight,
+  PlacesMirror,
+  pairIn,
+  found,
+  pair-same,
+  placed-changed,
+  placed-entered,
+}
 
+-- today, the last id and the open pairs of the book are those of the calls
 pub record Mirrors (b : Book) (h : List Call) : Type 0 where
   pub today : b .today ≡ dayOf h
   pub last : b .«last_id» ≡ highestId (pairs h)
-  pub placed : Placed (b .pairs) h
+  pub placed : PlacesMirror (b .pairs) h
 
 -- ---- the answers
 
 module _ (b : Book) (h : List Call) (M : Mirrors b h) (P : Proper h) where
-  count-same : total (λ p. only (isOpen p) 1) (b .pairs) ≡ total (λ e. only (isOpen (replayed h (e .id))) 1) (pairs h)
+  -- as many pairs are open
+  count-same : openCount (b .pairs) ≡ replayedWeight (λ p. only (isOpen p) 1) h
   count-same = M .placed .sums (λ p. only (isOpen p) 1) (λ p s. rw s refl)
 
-  pub view-same : viewOf b ≡ viewOfCalls h
+  -- an answer looks at the same
+  view-same : viewOf b ≡ viewOfCalls h
   unfolding viewOf viewOfCalls
   view-same = λ i. record { today = M .today i; highest = M .last i; count = counts i; pair = fun-ext pair-of i }
     where
-      q : places (b .pairs) ≡ b .pairs
-      q = places-all (b .pairs) (M .placed .room)
+      all : places (b .pairs) ≡ b .pairs
+      all = places-all (b .pairs) (M .placed .room)
 
-      counts : openCount (places (b .pairs)) ≡ total (λ e. only (isOpen (replayed h (e .id))) 1) (pairs h)
-      counts = ap openCount q ∙ count-same
+      counts : openCount (places (b .pairs)) ≡ replayedWeight (λ p. only (isOpen p) 1) h
+      counts = ap openCount all ∙ count-same
 
       pair-of : (k : ℕ) → pairOf b k ≡ openOnly (replayed h k)
-      pair-of k = ap (λ (ps : List Pair). pairIn ps k) q ∙ pair-same (b .pairs) h (M .placed) P k
+      pair-of k = ap (λ ps. pairIn ps k) all ∙ pair-same (b .pairs) h (M .placed) P k
 
+  -- so the answer is the same
   pub answer-same : (c : Call) → answerOf b c ≡ answer (viewOfCalls h) c
-  answer-same c = ap (λ (v : View). answer v c) view-same
+  answer-same c = ap (λ v. answer v c) view-same
 
 -- ---- an accepted call
 
--- hold, lack, settle and cancel
-module _ (b : Book) (h : List Call) (M : Mirrors b h) (P : Proper h) (i : ℕ) (o : isOpen (viewOfCalls h .pair i) ≡ true) where
-  pub placed-by : (c : Call) (f : Pair → Pair) → ((p : Pair) → f p .terms ≡ p .terms) → pairs (c ∷ h) ≡ pairs h
-      → ((k : ℕ) → replayed (c ∷ h) k ≡ cond (eqb i k) (f (replayed h k)) (replayed h k))
-      → Placed (set (b .pairs) (placeOf b i) (f (pairOf b i))) (c ∷ h)
-  placed-by c f kept same acts =
-      let now = open-replayed h i o .0 in
-      rw (places-all (b .pairs) (M .placed .room))
-      (placed-changed (b .pairs) h (M .placed) i (found (b .pairs) h (M .placed) P i now) (once h P i now) c f kept same acts)
+-- the places after a hold, a lack, a settle or a cancel, which changes the pair of its id by f
+placed-by : (b : Book) (h : List Call) → Mirrors b h → Proper h → (i : ℕ) → isOpen (viewOfCalls h .pair i) ≡ true
+    → (c : Call) (f : Pair → Pair) → ((p : Pair) → f p .terms ≡ p .terms) → pairs (c ∷ h) ≡ pairs h
+    → ((k : ℕ) → replayed (c ∷ h) k ≡ cond (eqb i k) (f (replayed h k)) (replayed h k))
+    → PlacesMirror (set (b .pairs) (placeOf b i) (f (pairOf b i))) (c ∷ h)
+placed-by b h M P i o c f kept same acts =
+    let now = open-replayed h i o .0 in
+    let F = found (b .pairs) h (M .placed) P i now in
+    rw (places-all (b .pairs) (M .placed .room)) (placed-changed (b .pairs) h (M .placed) i F (once h P i now) c f kept same acts)
 
+-- the places after an enter, which takes the first free one
+placed-new : (b : Book) (h : List Call) (e : Entry) → Mirrors b h → Proper h → EnterAllowed (viewOfCalls h) e
+    → PlacesMirror (set (b .pairs) (freePlace b) (entered (terms e))) (Call.Enter e ∷ h)
+unfolding viewOfCalls
+placed-new b h e M P A =
+    let r = M .placed .room in
+    let s = count-same b h M P in
+    let a = A .room in
+    let l = free-found (b .pairs) (omega arith) in
+    let free = not-true (isOpen (pairAt (b .pairs) (freeIn (b .pairs)))) (found-passes (λ p. not (isOpen p)) (b .pairs) l) in
+    rw (places-all (b .pairs) r)
+    (placed-entered (b .pairs) h (M .placed) e (unused h P (e .id) (A .above)) (freeIn (b .pairs)) l free)
+
+-- an enter
 mirrors-enter : (b : Book) (h : List Call) (e : Entry) → Mirrors b h → Proper h → EnterAllowed (viewOfCalls h) e
     → Mirrors (afterAccepted b (Call.Enter e)) (Call.Enter e ∷ h)
 unfolding afterAccepted pairsAfter dayOf pairs viewOfCalls
 mirrors-enter b h e M P A = record {
   today = M .today;
   last = let a = A .above in omega arith;
-  placed =
-      let l = free-found (b .pairs) (let r = M .placed .room in let s = count-same b h M P in let a = A .room in omega arith) in
-      rw (places-all (b .pairs) (M .placed .room))
-      (placed-entered (b .pairs) h (M .placed) e (unused h P (e .id) (A .above)) (firstPlace (λ p. not (isOpen p)) (b .pairs)) l
-      (not-true (isOpen (getD (b .pairs) (firstPlace (λ p. not (isOpen p)) (b .pairs)) blank)) (found-passes (λ p. not (isOpen p)) (b .pairs) l)));
+  placed = placed-new b h e M P A;
 }
 
+-- a close
 mirrors-close : (b : Book) (h : List Call) → Mirrors b h → Mirrors (afterAccepted b Call.Close) (Call.Close ∷ h)
 unfolding afterAccepted pairsAfter dayOf pairs replayed
 mirrors-close b h M = record {
@@ -82,6 +119,7 @@ mirrors-close b h M = record {
   placed = record { room = M .placed .room; same = M .placed .same; apart = M .placed .apart; sums = M .placed .sums };
 }
 
+-- any accepted call
 mirrors-step : (c : Call) (b : Book) (h : List Call) → Mirrors b h → Proper h → Allowed (viewOfCalls h) c
     → Mirrors (afterAccepted b c) (c ∷ h)
 unfolding afterAccepted pairsAfter dayOf pairs replayed
@@ -99,7 +137,8 @@ mirrors-step (Call.Lack id lack) b h M P A = record {
 mirrors-step (Call.Settle id part) b h M P A = record {
   today = M .today;
   last = M .last;
-  placed = placed-by b h M P id (A .isOpen) (Call.Settle id part) (withPart (b .today) part) (λ p. refl) refl (λ k. rw (M .today) refl);
+  placed =
+      placed-by b h M P id (A .isOpen) (Call.Settle id part) (withPart (b .today) part) (λ p. refl) refl (λ k. rw (M .today) refl);
 }
 mirrors-step (Call.Cancel id) b h M P A = record {
   today = M .today;
@@ -110,14 +149,17 @@ mirrors-step Call.Close b h M P A = mirrors-close b h M
 
 -- ---- the fresh book
 
+-- each of n copies is the element, and so is the default
 pub all-same : {A : Type 0} (n i : ℕ) (a : A) → getD (replicate n a) i a ≡ a
 all-same zero i a = refl
 all-same (suc n) zero a = refl
 all-same (suc n) (suc i) a = all-same n i a
 
+-- no pair of a fresh book is open
 shut : (n j : ℕ) → isOpen (getD (replicate n blank) j blank) ≡ false
 shut n j = ap isOpen (all-same n j blank)
 
+-- a fresh book mirrors no calls
 mirrors-fresh : Mirrors freshBook []
 unfolding freshBook dayOf pairs
 mirrors-fresh = record {
@@ -138,10 +180,12 @@ pub record Kept (s : State) : Type 0 where
   pub proper : Proper (acceptedCalls (s .history))
   pub mirrors : Mirrors (s .book) (acceptedCalls (s .history))
 
+-- it does so at the start
 pub kept-fresh : Kept (record { book = freshBook; history = [] })
 unfolding acceptedCalls
 kept-fresh = record { proper = tt; mirrors = mirrors-fresh }
 
+-- each call, accepted or refused, keeps it
 pub kept-step : (s : State) (c : Call) → Kept s → Kept (step s c)
 unfolding step after acceptedCalls
 kept-step s c K = go (answerOf (s .book) c) refl
@@ -149,22 +193,29 @@ kept-step s c K = go (answerOf (s .book) c) refl
     h : List Call
     h = acceptedCalls (s .history)
 
-    go : (n : ℕ) → answerOf (s .book) c ≡ n
-        → Kept (record { book = cond (isAccepted n) (afterAccepted (s .book) c) (s .book); history = record { call = c; answer = n } ∷ s .history })
+    -- where the answer is n
+    next : ℕ → State
+    next n = record {
+      book = cond (isAccepted n) (afterAccepted (s .book) c) (s .book);
+      history = record { call = c; answer = n } ∷ s .history;
+    }
+
+    go : (n : ℕ) → answerOf (s .book) c ≡ n → Kept (next n)
     go zero e =
         let a : answer (viewOfCalls h) c ≡ 0 = sym (answer-same (s .book) h (K .mirrors) (K .proper) c) ∙ e in
-        record { proper = (a, K .proper); mirrors = mirrors-step c (s .book) h (K .mirrors) (K .proper) (allowed (viewOfCalls h) c a) }
+        record {
+          proper = (a, K .proper);
+          mirrors = mirrors-step c (s .book) h (K .mirrors) (K .proper) (allowed (viewOfCalls h) c a);
+        }
     go (suc n) e = record { proper = K .proper; mirrors = K .mirrors }
 
+-- so does a list of calls
 kept-run : (calls : List Call) (s : State) → Kept s → Kept (run s calls)
 unfolding run
 kept-run [] s K = K
 kept-run (c ∷ calls) s K = kept-run calls (step s c) (kept-step s c K)
 
+-- After every list of calls the book mirrors the accepted ones, and they are proper.
 pub kept : (calls : List Call) → Kept (afterCalls calls)
 unfolding afterCalls
-kept calls = kept-run calls (record { book = freshBook; history = [] }) kept-fresh
-
--- Each answer is the one that the accepted calls before it give.
-pub answers-counted : (calls : List Call) (c : Call) → answerOf (bookAfter calls) c ≡ answer (viewOfCalls (acceptedOf calls)) c
-answers-counted calls c = let K = kept calls in answer-same (bookAfter calls) (acceptedOf calls) (K .mirrors) (K .proper) c
+kept calls = kept-run calls _ kept-fresh

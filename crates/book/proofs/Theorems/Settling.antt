@@ -127,9 +127,11 @@ module _ (h : List Call) (e : Entry) (q : ℕ) where
   }
 
 -- an accepted settle: the pair is due, and the part is 1 to its rest
-module _ (h : List Call) (e : Entry) (q : ℕ) (N : Now h e) (due : e .isd ≤ dayOf h) (some : 1 ≤ q) (most : q ≤ replayed h (e .id) .rest) where
+module _ (h : List Call) (e : Entry) (q : ℕ) (N : Now h e) (due : e .isd ≤ dayOf h)
+    (some : 1 ≤ q) (most : q ≤ replayed h (e .id) .rest) where
   -- where a rest is left the pair is part-settled so far
-  settle-partNow : (m : Measure) → partNow m (dayOf h) (Call.Settle (e .id) q ∷ h) e ≡ only (ltb 0 (replayed h (e .id) .rest - q)) (twoMore m)
+  settle-partNow : (m : Measure)
+      → partNow m (dayOf h) (Call.Settle (e .id) q ∷ h) e ≡ only (ltb 0 (replayed h (e .id) .rest - q)) (twoMore m)
   settle-partNow m =
       let r = open-rest h e N (omega arith) in
       let r′ : e .amount - (q + parts h (e .id)) ≡ replayed h (e .id) .rest - q = omega arith in
@@ -196,7 +198,8 @@ module _ (h : List Call) (e : Entry) where
   cancel-partNow m d = refl
 
   -- today, if it is due, its rest is cancelled
-  cancel-cancelled : (m : Measure) → cancelledOf m (Call.Cancel (e .id) ∷ h) (dayOf h) e ≡ only (leb (e .isd) (dayOf h)) (twoSIs m (restOf h e))
+  cancel-cancelled : (m : Measure)
+      → cancelledOf m (Call.Cancel (e .id) ∷ h) (dayOf h) e ≡ only (leb (e .isd) (dayOf h)) (twoSIs m (restOf h e))
   unfolding cancelledOf cancelledOn beforeCancel
   cancel-cancelled m = rw (eqb-same (e .id), eqb-same (dayOf h), and-true (leb (e .isd) (dayOf h))) refl
 

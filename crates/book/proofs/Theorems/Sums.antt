@@ -1,9 +1,9 @@
--- Sums over lists, and what a test says of its numbers. Assumes nothing.
-use Prim.Native.Nat.{ℕ, zero, suc, _+_, _≤_, _<_, zero-le}
-use native.Mathlib.Nat.{not-suc-le-zero, le-of-suc-le-suc, le-refl}
+-- Sums over lists, by induction on the list, and what a test says of its numbers. Assumes nothing.
+use Prim.Native.Nat.{ℕ, zero, suc, _+_, _*_, _≤_, _<_, zero-le}
+use native.Mathlib.Nat.{not-suc-le-zero, le-of-suc-le-suc, le-refl, suc-mul}
 use native.Mathlib.Omega.{arith}
-use mathlib.Core.Path.{_≡_, refl}
-use mathlib.Core.Bool.{Bool, true, false, _&&_, _||_}
+use mathlib.Core.Path.{_≡_, refl, sym}
+use mathlib.Core.Bool.{Bool, true, false, cond, _&&_, _||_}
 use mathlib.Core.List.{List, [], _∷_, _++_}
 use lib.ListN.{length, getD, set, replicate}
 use borrow.Author.Tests.{ltb-true, ltb-false, leb-true, leb-false, eqb-true, eqb-false}
@@ -14,80 +14,131 @@ pub ruleset tests = (ltb-true, ltb-false, leb-true, leb-false, eqb-true, eqb-fal
 
 -- ---- tests
 
+-- no test both passes and fails
 pub clash : {A : Type 0} {t : Bool} → t ≡ true → t ≡ false → A
 clash p q = let z : _≡_ {A = ℕ} 0 1 = cc in absurd (omega arith)
 
+-- where both pass, each passes
 pub and-true : (a b : Bool) → (a && b) ≡ true → (a ≡ true) × (b ≡ true)
 and-true true b h = (refl, h)
 and-true false b h = clash h refl
 
+-- where neither passes, each fails
 pub or-false : (a b : Bool) → (a || b) ≡ false → (a ≡ false) × (b ≡ false)
 or-false true b h = clash refl h
 or-false false b h = (refl, h)
 
-pub only-and : (a b : Bool) (n : ℕ) → only (a && b) n ≡ only a (only b n)
-only-and true b n = refl
-only-and false b n = refl
+-- ---- a number under a test
 
-pub only-zero : (a : Bool) → only a 0 ≡ 0
+-- nothing is nothing under a test
+pub only-zero : (t : Bool) → only t 0 ≡ 0
 only-zero true = refl
 only-zero false = refl
 
-pub only-le : (a : Bool) (n : ℕ) → only a n ≤ n
+-- a number under a test is no more than the number
+pub only-le : (t : Bool) (n : ℕ) → only t n ≤ n
 only-le true n = le-refl n
 only-le false n = zero-le
+
+-- the larger number is the larger one under a test
+pub only-mono : (t : Bool) {n m : ℕ} → n ≤ m → only t n ≤ only t m
+only-mono true l = l
+only-mono false l = zero-le
+
+-- a sum under a test is the sum of its two numbers under it
+pub only-add : (t : Bool) (n m : ℕ) → only t (n + m) ≡ only t n + only t m
+only-add true n m = refl
+only-add false n m = refl
+
+-- two tests may stand in either order
+pub only-swap : (s t : Bool) (n : ℕ) → only s (only t n) ≡ only t (only s n)
+only-swap true t n = refl
+only-swap false t n = sym (only-zero t)
 
 -- ---- sums
 
 module _ {A : Type 0} where
+  -- equal weights have equal sums
   pub total-ext : (w v : A → ℕ) → ((x : A) → w x ≡ v x) → (l : List A) → total w l ≡ total v l
   total-ext w v h [] = refl
   total-ext w v h (x ∷ l) = let i = total-ext w v h l in let j = h x in omega arith
 
+  -- a weight in two parts sums to the sums of its parts
   pub total-add : (w v u : A → ℕ) → ((x : A) → w x ≡ v x + u x) → (l : List A) → total w l ≡ total v l + total u l
   total-add w v u h [] = refl
   total-add w v u h (x ∷ l) = let i = total-add w v u h l in let j = h x in omega arith
 
-  pub total-swap : (w v u z : A → ℕ) → ((x : A) → w x + u x ≡ v x + z x) → (l : List A)
-      → total w l + total u l ≡ total v l + total z l
-  total-swap w v u z h [] = refl
-  total-swap w v u z h (x ∷ l) = let i = total-swap w v u z h l in let j = h x in omega arith
+  -- so does a weight of selected elements
+  pub total-only-add : (selects : A → Bool) (w v u : A → ℕ) → ((x : A) → w x ≡ v x + u x) → (l : List A)
+      → total (λ x. only (selects x) (w x)) l ≡ total (λ x. only (selects x) (v x)) l + total (λ x. only (selects x) (u x)) l
+  total-only-add selects w v u h l = total-add _ _ _ (λ x. rw (h x) (only-add (selects x) (v x) (u x))) l
 
+  -- a weight that is 0 everywhere sums to 0
   pub total-none : (w : A → ℕ) → ((x : A) → w x ≡ 0) → (l : List A) → total w l ≡ 0
   total-none w h [] = refl
   total-none w h (x ∷ l) = let i = total-none w h l in let j = h x in omega arith
 
+  -- the larger weight has the larger sum
   pub total-le : (w v : A → ℕ) → ((x : A) → w x ≤ v x) → (l : List A) → total w l ≤ total v l
   total-le w v h [] = le-refl 0
   total-le w v h (x ∷ l) = let i = total-le w v h l in let j = h x in omega arith
 
+  -- two lists together sum to the sums of both
   pub total-append : (w : A → ℕ) (l r : List A) → total w (l ++ r) ≡ total w l + total w r
   total-append w [] r = omega arith
   total-append w (x ∷ l) r = let i = total-append w l r in omega arith
 
+  -- a test that is the same for all elements may stand before the sum
   pub total-only : (t : Bool) (w : A → ℕ) (l : List A) → total (λ x. only t (w x)) l ≡ only t (total w l)
   total-only true w l = refl
   total-only false w l = total-none (λ x. 0) (λ x. refl) l
 
+  -- where a test puts a in place of b, the sum loses what b weighs there and gains what a weighs
+  pub total-cond : {B : Type 0} (w : B → ℕ) (test : A → Bool) (a b : A → B) (l : List A)
+      → total (λ x. w (cond (test x) (a x) (b x))) l + total (λ x. only (test x) (w (b x))) l
+      ≡ total (λ x. w (b x)) l + total (λ x. only (test x) (w (a x))) l
+  total-cond w test a b [] = refl
+  total-cond {B = B} w test a b (x ∷ l) = let i = total-cond w test a b l in let j = one (test x) (a x) (b x) in omega arith
+    where
+      one : (t : Bool) (p q : B) → w (cond t p q) + only t (w q) ≡ w q + only t (w p)
+      one true p q = omega arith
+      one false p q = refl
+
+  -- the sum after one element is set
   pub total-set : (w : A → ℕ) (l : List A) (j : ℕ) (v d : A) → j < length l
       → total w (set l j v) + w (getD l j d) ≡ total w l + w v
   total-set w [] j v d h = absurd (not-suc-le-zero h)
   total-set w (x ∷ l) zero v d h = omega arith
   total-set w (x ∷ l) (suc j) v d h = let i = total-set w l j v d (le-of-suc-le-suc h) in omega arith
 
+  -- copies of an element that weighs 0 sum to 0
   pub total-replicate : (w : A → ℕ) (n : ℕ) (a : A) → w a ≡ 0 → total w (replicate n a) ≡ 0
   total-replicate w zero a h = refl
   total-replicate w (suc n) a h = let i = total-replicate w n a h in omega arith
 
-  -- where a fact holds of each element
+  -- ---- where a fact holds of each element
+
+  -- what follows from it holds of each element
   pub all-map : (P Q : A → Type 0) → ((x : A) → P x → Q x) → (l : List A) → All P l → All Q l
   all-map P Q h [] a = tt
   all-map P Q h (x ∷ l) a = (h x (a .0), all-map P Q h l (a .1))
 
+  -- what holds of each element of two lists holds of each one of both together
+  pub all-append : (P : A → Type 0) (l r : List A) → All P l → All P r → All P (l ++ r)
+  all-append P [] r a b = b
+  all-append P (x ∷ l) r a b = (a .0, all-append P l r (a .1) b)
+
+  -- weights that are equal by it have equal sums
   pub total-all : (P : A → Type 0) (w v : A → ℕ) → ((x : A) → P x → w x ≡ v x) → (l : List A) → All P l → total w l ≡ total v l
   total-all P w v h [] a = refl
   total-all P w v h (x ∷ l) a = let i = total-all P w v h l (a .1) in let j = h x (a .0) in omega arith
 
+  -- the weight that is larger by it has the larger sum
   pub total-all-le : (P : A → Type 0) (w v : A → ℕ) → ((x : A) → P x → w x ≤ v x) → (l : List A) → All P l → total w l ≤ total v l
   total-all-le P w v h [] a = le-refl 0
   total-all-le P w v h (x ∷ l) a = let i = total-all-le P w v h l (a .1) in let j = h x (a .0) in omega arith
+
+  -- where each element weighs at most k, the sum is at most k times their count
+  pub total-times : (w : A → ℕ) (k : ℕ) (l : List A) → All (λ x. w x ≤ k) l → total w l ≤ length l * k
+  total-times w k [] a = omega arith
+  total-times w k (x ∷ l) a = let i = total-times w k l (a .1) in let j = a .0 in let s = suc-mul (length l) k in omega arith

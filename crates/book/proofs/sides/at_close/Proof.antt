@@ -24,13 +24,16 @@ returns-5 : tie.Need-returns-5
 returns-5 c = rw (c .before .before .enum-told3 .given .1, c .enum-told6 .given .1)
 
 returns-6 : tie.Need-returns-6
-returns-6 c = rw (c .before .before .before .before .enum-told3 .given .1, c .before .before .enum-told7 .given .1, c .enum-told8 .given .1)
+returns-6 c =
+    rw (c .before .before .before .before .enum-told3 .given .1, c .before .before .enum-told7 .given .1, c .enum-told8 .given .1)
 
 returns-7 : tie.Need-returns-7
-returns-7 c = rw (c .before .before .before .before .enum-told3 .given .1, c .before .before .enum-told7 .given .1, c .enum-told9 .given .1)
+returns-7 c =
+    rw (c .before .before .before .before .enum-told3 .given .1, c .before .before .enum-told7 .given .1, c .enum-told9 .given .1)
 
 returns-8 : tie.Need-returns-8
-returns-8 c = rw (c .before .before .before .before .enum-told3 .given .1, c .before .before .enum-told7 .given .1, c .enum-told10 .given .1)
+returns-8 c =
+    rw (c .before .before .before .before .enum-told3 .given .1, c .before .before .enum-told7 .given .1, c .enum-told10 .given .1)
 
 -- ---- with payment
 
@@ -44,13 +47,16 @@ returns-11 : tie.Need-returns-11
 returns-11 c = rw (c .before .before .enum-told11 .given .1, c .enum-told14 .given .1)
 
 returns-12 : tie.Need-returns-12
-returns-12 c = rw (c .before .before .before .before .enum-told11 .given .1, c .before .before .enum-told15 .given .1, c .enum-told16 .given .1)
+returns-12 c =
+    rw (c .before .before .before .before .enum-told11 .given .1, c .before .before .enum-told15 .given .1, c .enum-told16 .given .1)
 
 returns-13 : tie.Need-returns-13
-returns-13 c = rw (c .before .before .before .before .enum-told11 .given .1, c .before .before .enum-told15 .given .1, c .enum-told17 .given .1)
+returns-13 c =
+    rw (c .before .before .before .before .enum-told11 .given .1, c .before .before .enum-told15 .given .1, c .enum-told17 .given .1)
 
 returns-14 : tie.Need-returns-14
-returns-14 c = rw (c .before .before .before .before .enum-told11 .given .1, c .before .before .enum-told15 .given .1, c .enum-told18 .given .1)
+returns-14 c =
+    rw (c .before .before .before .before .enum-told11 .given .1, c .before .before .enum-told15 .given .1, c .enum-told18 .given .1)
 
 pub at-close-spec : {M : Type 1} → statement M
 at-close-spec =
