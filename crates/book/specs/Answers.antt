@@ -11,6 +11,7 @@ pub use Rattle.book.specs.declared.calls.Answer.{Answer}
 
 -- ---- the paper's numbers
 
+-- the number of a refusal: document 01, 'Numbers given back'
 abbrev pub refusalNumber : Refusal → ℕ
 refusalNumber Refusal.Finished = 1
 refusalNumber Refusal.OutOfRange = 2
@@ -47,6 +48,7 @@ abbrev pub refused : Bool → ℕ → ℕ → ℕ
 refused true n later = n
 refused false n later = later
 
+-- no number comes back
 abbrev pub accepted : ℕ
 accepted = 0
 

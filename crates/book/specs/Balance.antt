@@ -25,6 +25,7 @@ step s call = record {
   history = record { call = call; answer = answerOf (s .book) call } ∷ s .history;
 }
 
+-- the calls of a list, one after another
 unfoldable pub run : State → List Call → State
 run s [] = s
 run s (call ∷ calls) = run (step s call) calls
@@ -33,9 +34,11 @@ run s (call ∷ calls) = run (step s call) calls
 unfoldable pub afterCalls : List Call → State
 afterCalls calls = run (record { book = freshBook; history = [] }) calls
 
+-- the book that the last call handed back
 abbrev pub bookAfter : List Call → Book
 bookAfter calls = afterCalls calls .book
 
+-- the accepted calls among them, the latest first
 abbrev pub acceptedOf : List Call → List Call
 acceptedOf calls = acceptedCalls (afterCalls calls .history)
 
@@ -49,6 +52,7 @@ ClosedDaysAreGiven =
 
 -- ---- the daily balance
 
+-- a figure in number or in value
 abbrev pub inMeasure : Measure → Figure → ℕ
 inMeasure number f = f .number
 inMeasure value f = f .value

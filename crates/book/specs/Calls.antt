@@ -36,6 +36,7 @@ isOpenPair id p = isOpen p && eqb (p .terms .id) id
 abbrev pub freePlace : Book → ℕ
 freePlace b = firstPlace (λ p. not (isOpen p)) (places (b .pairs))
 
+-- the place of the open pair of an id
 abbrev pub placeOf : Book → ℕ → ℕ
 placeOf b id = firstPlace (isOpenPair id) (places (b .pairs))
 
@@ -43,14 +44,17 @@ placeOf b id = firstPlace (isOpenPair id) (places (b .pairs))
 abbrev pub pairOf : Book → ℕ → Pair
 pairOf b id = getD (places (b .pairs)) (placeOf b id) blank
 
+-- how many of the pairs are open
 abbrev pub openCount : List Pair → ℕ
 openCount ps = total (λ p. only (isOpen p) 1) ps
 
 -- ---- what comes back
 
+-- what an answer looks at, in the book
 unfoldable pub viewOf : Book → View
 viewOf b = record { today = b .today; highest = b .«last_id»; count = openCount (places (b .pairs)); pair = pairOf b }
 
+-- the number that comes back, 0 where none does
 abbrev pub answerOf : Book → Call → ℕ
 answerOf b call = answer (viewOf b) call
 
@@ -92,6 +96,7 @@ lastIdAfter last (Call.Settle id part) = last
 lastIdAfter last (Call.Cancel id) = last
 lastIdAfter last Call.Close = last
 
+-- the book that an accepted call hands back
 unfoldable pub afterAccepted : Book → Call → Book
 afterAccepted b call = record {
   pairs = pairsAfter b call;

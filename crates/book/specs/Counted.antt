@@ -52,6 +52,7 @@ pub data Column : Type 0 where
   settled securities cash : Measure → Column
   isdValue : Column
 
+-- that figure of a cell
 abbrev pub column : Column → Cell → ℕ
 column (settled m) c = inMeasure m (c .settled)
 column (securities m) c = inMeasure m (c .securities)
@@ -72,10 +73,12 @@ counted f selects h day = sumOver selects (λ e. postedOn f day (life h (e .id))
 
 -- ---- answers
 
+-- the highest of the accepted ids, 0 where there is none
 abbrev pub highestId : List Entry → ℕ
 highestId [] = 0
 highestId (e ∷ es) = max (e .id) (highestId es)
 
+-- the pair while it is open, the blank one after that
 abbrev pub openOnly : Pair → Pair
 openOnly p = cond (isOpen p) p blank
 

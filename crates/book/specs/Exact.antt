@@ -22,9 +22,11 @@ abbrev pub sumFrom : (ℕ → ℕ) → ℕ → ℕ → ℕ
 sumFrom f first zero = 0
 sumFrom f first (suc n) = f first + sumFrom f (suc first) n
 
+-- the total of a row
 abbrev pub totalOn : Measure → Book → ℕ → ℕ → ℕ
 totalOn m b category day = inMeasure m (rowOf b day category .total)
 
+-- the sums of a book are plain sums, and bounded
 pub record Exact (b : Book) : Type 0 where
   -- total is settled + securities fails + cash fails
   pub totals : (m : Measure) (day category : ℕ) → day < dayLimit → category ≤ 9

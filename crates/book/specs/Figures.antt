@@ -18,9 +18,11 @@ pub use Rattle.book.specs.declared.cells.Cell.{Cell}
 abbrev figure : ℕ → ℕ → Figure
 figure n v = record { number = n; value = v }
 
+-- no SI, and no value
 abbrev pub nothing : Figure
 nothing = figure 0 0
 
+-- a cell before anything is counted there
 abbrev pub none : Cell
 none = record { settled = nothing; securities = nothing; cash = nothing; «isd_value» = 0 }
 
@@ -69,6 +71,7 @@ lateFrom (suc n) day e =
     record { day = day; terms = e; figures = failFigures (sidesWhenLate (e .kind) (e .side)) (e .amount) (eqb day (e .isd)) }
     ∷ lateFrom n (suc day) e
 
+-- If ISD is before today the pair is late (Guideline 8): its postings, none where it is not.
 abbrev pub latePostings : ℕ → Terms → List Posting
 latePostings today e = lateFrom (today - e .isd) (e .isd) e
 
@@ -80,6 +83,7 @@ partPosting today part p = record { day = today; terms = p .terms; figures = par
 abbrev pub failing : ℕ → Pair → Bool
 failing today p = isOpen p && leb (p .terms .isd) today
 
+-- what a failing pair posts today, by the side of a fail at close
 unfoldable pub failPosting : ℕ → Pair → Posting
 failPosting today p = record {
   day = today;
@@ -87,6 +91,7 @@ failPosting today p = record {
   figures = failFigures (sidesAtClose (p .terms .kind) (p .holds) (p .lack)) (p .rest) (eqb today (p .terms .isd));
 }
 
+-- the postings of the pairs that fail, in order
 unfoldable pub failPostings : ℕ → List Pair → List Posting
 failPostings today [] = []
 failPostings today (p ∷ ps) = let later = failPostings today ps in cond (failing today p) (failPosting today p ∷ later) later
@@ -97,12 +102,15 @@ failPostings today (p ∷ ps) = let later = failPostings today ps in cond (faili
 unfoldable pub place : ℕ → ℕ → ℕ
 place day category = min (categoryCount * day + (category - 1)) (cellCount - 1)
 
+-- the cell of a day and category
 abbrev pub cellAt : List Cell → ℕ → ℕ → Cell
 cellAt cells day category = getD cells (place day category) none
 
+-- the sum of two figures, as it is stored
 abbrev pub addFigure : Figure → Figure → Figure
 addFigure a b = figure (capped (a .number + b .number)) (capped (a .value + b .value))
 
+-- the sum of two cells, figure by figure
 abbrev pub addCell : Cell → Cell → Cell
 addCell a b = record {
   settled = addFigure (a .settled) (b .settled);

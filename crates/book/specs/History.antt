@@ -20,6 +20,7 @@ acceptedCalls (x ∷ history) = let before = acceptedCalls history in cond (isAc
 
 -- ---- what a call is
 
+-- a close
 abbrev pub isClose : Call → Bool
 isClose (Call.Enter e) = false
 isClose (Call.Hold id side on) = false
@@ -46,6 +47,7 @@ cancels i (Call.Settle id part) = false
 cancels i (Call.Cancel id) = eqb id i
 cancels i Call.Close = false
 
+-- the part of a settle
 abbrev pub partOf : Call → ℕ
 partOf (Call.Enter e) = 0
 partOf (Call.Hold id side on) = 0
@@ -117,6 +119,7 @@ beforeClose (c ∷ h) day = let before = beforeClose h day in cond (isClose c &&
 
 -- ---- the figures of demand 3, in number and in value
 
+-- in number of SIs, or in value in cents
 pub data Measure : Type 0 where
   number value : Measure
 
@@ -155,11 +158,14 @@ counts category own = eqb category 0 || eqb category own
 abbrev pub sumOver : (Entry → Bool) → (Entry → ℕ) → List Entry → ℕ
 sumOver selects w es = total (λ e. only (selects e) (w e)) es
 
+-- newly due on a day in a category
 abbrev pub newlyDue : Measure → List Call → ℕ → ℕ → ℕ
 newlyDue m h day category = sumOver (λ e. counts category (e .category)) (dueOf m h day) (pairs h)
 
+-- cancelled on a day in a category
 abbrev pub cancelled : Measure → List Call → ℕ → ℕ → ℕ
 cancelled m h day category = sumOver (λ e. counts category (e .category)) (cancelledOf m h day) (pairs h)
 
+-- part-settled on a day in a category
 abbrev pub partSettled : Measure → List Call → ℕ → ℕ → ℕ
 partSettled m h day category = sumOver (λ e. counts category (e .category)) (partSettledOf m h day) (pairs h)

@@ -17,6 +17,7 @@ cellCount = 576
 abbrev pub openLimit : ℕ
 openLimit = 1024
 
+-- ids are 1 to this
 abbrev pub largestId : ℕ
 largestId = 65535
 

@@ -21,6 +21,7 @@ kindNumber Kind.WithPayment = 2
 kindNumber Kind.FreeOfPayment = 3
 kindNumber Kind.PaymentOnly = 4
 
+-- the kind with that number
 abbrev pub kindOf : ℕ → Kind
 kindOf n =
     cond (eqb n 1) Kind.AgainstPayment
@@ -32,6 +33,7 @@ abbrev pub sideNumber : Side → ℕ
 sideNumber Side.Deliverer = 1
 sideNumber Side.Receiver = 2
 
+-- the side with that number
 abbrev pub sideOf : ℕ → Side
 sideOf n = cond (eqb n 1) Side.Deliverer Side.Receiver
 
@@ -41,29 +43,34 @@ lackNumber Lack.Nothing = 0
 lackNumber Lack.Securities = 1
 lackNumber Lack.Cash = 2
 
+-- the lack with that number
 abbrev pub lackOf : ℕ → Lack
 lackOf n = cond (eqb n 0) Lack.Nothing (cond (eqb n 1) Lack.Securities Lack.Cash)
 
 -- ---- holds, one on each side
 
+-- the deliverer's hold is on
 abbrev pub byDeliverer : Holds → Bool
 byDeliverer Holds.Neither = false
 byDeliverer Holds.Deliverer = true
 byDeliverer Holds.Receiver = false
 byDeliverer Holds.Both = true
 
+-- the receiver's hold is on
 abbrev pub byReceiver : Holds → Bool
 byReceiver Holds.Neither = false
 byReceiver Holds.Deliverer = false
 byReceiver Holds.Receiver = true
 byReceiver Holds.Both = true
 
+-- the holds, given the deliverer's and the receiver's
 abbrev pub holdsOf : Bool → Bool → Holds
 holdsOf true true = Holds.Both
 holdsOf true false = Holds.Deliverer
 holdsOf false true = Holds.Receiver
 holdsOf false false = Holds.Neither
 
+-- a hold is on, on either side
 abbrev pub anyHold : Holds → Bool
 anyHold h = byDeliverer h || byReceiver h
 
@@ -112,6 +119,7 @@ partOn day p = eqb (p .«last_part») (suc day)
 
 -- ---- what a call changes of a pair
 
+-- Hold: the hold of a side goes on or off
 abbrev pub withHold : ℕ → ℕ → Pair → Pair
 withHold side on p = record {
   terms = p .terms;
@@ -121,11 +129,14 @@ withHold side on p = record {
   «last_part» = p .«last_part»;
 }
 
+-- Lack: 0, 1 or 2
 abbrev pub withLack : ℕ → Pair → Pair
 withLack lack p = record { terms = p .terms; rest = p .rest; holds = p .holds; lack = lackOf lack; «last_part» = p .«last_part» }
 
+-- Settle takes a part of the rest.
 abbrev pub withPart : ℕ → ℕ → Pair → Pair
 withPart today part p = record { terms = p .terms; rest = p .rest - part; holds = p .holds; lack = p .lack; «last_part» = suc today }
 
+-- Cancel ends the pair.
 abbrev pub ended : Pair → Pair
 ended p = record { terms = p .terms; rest = 0; holds = p .holds; lack = p .lack; «last_part» = p .«last_part» }

@@ -30,6 +30,7 @@ rowFrom c = record {
   «isd_value» = c .«isd_value»;
 }
 
+-- the row of a day and category
 abbrev pub rowOf : Book → ℕ → ℕ → Row
 rowOf b day category = rowFrom (cellOf (b .cells) day category)
 
@@ -40,10 +41,12 @@ pub data Given : Type 0 where
   refusedBy : ℕ → Given
   figures : Row → Given
 
+-- the number or the figures that an answer stands for
 abbrev pub givenBy : RowAnswer → Given
 givenBy (RowAnswer.Figures r) = figures r
 givenBy (RowAnswer.Refused r) = refusedBy (refusalNumber r)
 
+-- a day before today, and one of the 64, whatever the book holds
 abbrev pub isClosed : Book → ℕ → Bool
 isClosed b day = ltb day (b .today) && ltb day dayLimit
 

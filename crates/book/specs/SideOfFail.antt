@@ -11,6 +11,7 @@ pub record Rule : Type 0 where
   pub applies : Bool
   pub gives : Sides
 
+-- a rule, in one line
 abbrev rule : Bool → Sides → Rule
 rule t s = record { applies = t; gives = s }
 
@@ -19,12 +20,15 @@ abbrev pub firstOf : List Rule → Sides → Sides
 firstOf [] otherwise = otherwise
 firstOf (r ∷ rs) otherwise = cond (r .applies) (r .gives) (firstOf rs otherwise)
 
+-- the kind has that number
 abbrev isKind : ℕ → Kind → Bool
 isKind n kind = eqb (kindNumber kind) n
 
+-- the lack has that number
 abbrev isLack : ℕ → Lack → Bool
 isLack n lack = eqb (lackNumber lack) n
 
+-- both holds are on
 abbrev bothHold : Holds → Bool
 bothHold h = byDeliverer h && byReceiver h
 

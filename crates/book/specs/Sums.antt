@@ -10,6 +10,7 @@ abbrev pub only : Bool → ℕ → ℕ
 only true n = n
 only false n = zero
 
+-- from the lowest to the highest, both included
 abbrev pub within : ℕ → ℕ → ℕ → Bool
 within low high n = leb low n && leb n high
 

@@ -11,6 +11,7 @@ use Rattle.book.specs.History.{Measure, dayOf, parts, twoSIs, twoMore, d
 use Rattle.book.specs.Balance.{inMeasure}
 use Rattle.book.specs.Counted.{replayed, life, postedOn, restAtCancel}
 
+-- what settled, in a measure
 abbrev pub settledIn : Measure → Cell → ℕ
 settledIn m c = inMeasure m (c .settled)
 
@@ -22,13 +23,16 @@ failsIn m c = inMeasure m (c .securities) + inMeasure m (c .cash)
 abbrev pub settledBy : Measure → List Call → ℕ → ℕ → ℕ
 settledBy m h i day = postedOn (settledIn m) day (life h i)
 
+-- what failed of it on a day
 abbrev pub failsBy : Measure → List Call → ℕ → ℕ → ℕ
 failsBy m h i day = postedOn (failsIn m) day (life h i)
 
+-- what failed of it on the day before
 abbrev pub previousBy : Measure → List Call → ℕ → ℕ → ℕ
 previousBy m h i zero = 0
 previousBy m h i (suc day) = failsBy m h i day
 
+-- how an accepted pair has lived
 pub record Lived (h : List Call) (e : Entry) : Type 0 where
   pub terms : replayed h (e .id) .terms ≡ terms e
   pub balance : (m : Measure) (day : ℕ) → day < dayOf h
