@@ -14,14 +14,14 @@ pub use Rattle.book.specs.declared.book.Book.{Book}
 -- ---- the places
 
 -- n places, the pairs of a list and then blank ones
-abbrev pub placesOf : ℕ → List Pair → List Pair
-placesOf zero pairs = []
-placesOf (suc n) [] = blank ∷ placesOf n []
-placesOf (suc n) (p ∷ pairs) = p ∷ placesOf n pairs
+abbrev pub withBlanks : ℕ → List Pair → List Pair
+withBlanks zero pairs = []
+withBlanks (suc n) [] = blank ∷ withBlanks n []
+withBlanks (suc n) (p ∷ pairs) = p ∷ withBlanks n pairs
 
 -- the pairs of the book's 1,024 places, in order; an array has just as many
 unfoldable pub places : List Pair → List Pair
-places pairs = placesOf openLimit pairs
+places pairs = withBlanks openLimit pairs
 
 -- the first place whose pair passes the test, or the count of places
 unfoldable pub firstPlace : (Pair → Bool) → List Pair → ℕ

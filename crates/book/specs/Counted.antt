@@ -5,7 +5,7 @@ use mathlib.Core.Path.{_≡_}
 use mathlib.Core.Bool.{Bool, cond}
 use mathlib.Core.List.{List, [], _∷_, _++_}
 use lib.Dec.{eqb}
-use Rattle.book.specs.Limits.{dayLimit}
+use Rattle.book.specs.Limits.{dayLimit, categoryCount}
 use Rattle.book.specs.Sums.{only, total, All}
 use Rattle.book.specs.Pairs.{Entry, Terms, Pair, terms, entered, blank, isOpen, withHold, withLack, withPart, ended}
 use Rattle.book.specs.Figures.{Cell, Posting, latePostings, partPosting, failPostings, post, postAll}
@@ -123,7 +123,7 @@ abbrev pub RowsAreLives : Type 0
 RowsAreLives =
     (calls : List Call) (figure : Column) (day category : ℕ)
     → day < dayLimit
-    → category ≤ 9
+    → category ≤ categoryCount
     → column figure (cellOf (bookAfter calls .cells) day category)
     ≡ counted (column figure) (λ e. counts category (e .category)) (acceptedOf calls) day
 

@@ -3,7 +3,7 @@
 use Prim.Native.Nat.{ℕ, zero, suc, _+_, _*_, _≤_, _<_}
 use mathlib.Core.Path.{_≡_}
 use mathlib.Core.List.{List}
-use Rattle.book.specs.Limits.{dayLimit, largestStored}
+use Rattle.book.specs.Limits.{dayLimit, categoryCount, largestStored}
 use Rattle.book.specs.Answers.{Call}
 use Rattle.book.specs.Calls.{Book}
 use Rattle.book.specs.Rows.{cellOf, rowOf}
@@ -11,8 +11,8 @@ use Rattle.book.specs.History.{Measure, number, value}
 use Rattle.book.specs.Balance.{bookAfter, inMeasure, failsOf}
 use Rattle.book.specs.Counted.{Column, column}
 
--- The most that a row can total. At most 65,535 pairs are accepted; on a day each has 2 SIs settled and 2 failing at
--- the most, and settled and failing value of twice 10,000,000,000 cents together.
+-- A bound on what a row can total. At most 65,535 pairs are accepted; on a day each has 2 SIs settled and 2 failing at the
+-- most, and settled and failing value of twice 10,000,000,000 cents together.
 abbrev pub most : Measure → ℕ
 most number = 262140
 most value = 1310700000000000
@@ -29,17 +29,17 @@ totalOn m b category day = inMeasure m (rowOf b day category .total)
 -- the sums of a book are plain sums, and bounded
 pub record Exact (b : Book) : Type 0 where
   -- total is settled + securities fails + cash fails
-  pub totals : (m : Measure) (day category : ℕ) → day < dayLimit → category ≤ 9
+  pub totals : (m : Measure) (day category : ℕ) → day < dayLimit → category ≤ categoryCount
       → totalOn m b category day
       ≡ inMeasure m (rowOf b day category .settled) + failsOf m b day category
   -- category 0 is the sum of categories 1 to 9
   pub categories : (figure : Column) (day : ℕ) → day < dayLimit
-      → column figure (cellOf (b .cells) day 0) ≡ sumFrom (λ c. column figure (cellOf (b .cells) day c)) 1 9
-  pub rows : (m : Measure) (day category : ℕ) → day < dayLimit → category ≤ 9 → totalOn m b category day ≤ most m
+      → column figure (cellOf (b .cells) day 0) ≡ sumFrom (λ c. column figure (cellOf (b .cells) day c)) 1 categoryCount
+  pub rows : (m : Measure) (day category : ℕ) → day < dayLimit → category ≤ categoryCount → totalOn m b category day ≤ most m
   -- ISD value is a part of the fails
-  pub isdValues : (day category : ℕ) → day < dayLimit → category ≤ 9
+  pub isdValues : (day category : ℕ) → day < dayLimit → category ≤ categoryCount
       → rowOf b day category .«isd_value» ≤ failsOf value b day category
-  pub runs : (m : Measure) (category first n : ℕ) → first + n ≤ dayLimit → category ≤ 9
+  pub runs : (m : Measure) (category first n : ℕ) → first + n ≤ dayLimit → category ≤ categoryCount
       → sumFrom (totalOn m b category) first n ≤ n * most m
 
 -- 64 days at the most: 83,884,800,000,000,000 cents, below 18,446,744,073,709,551,615

@@ -7,7 +7,7 @@ use lib.Dec.{leb, eqb}
 use lib.ListN.{getD, set}
 use Rattle.book.specs.Limits.{categoryCount, cellCount}
 use Rattle.book.specs.Sums.{only, capped}
-use Rattle.book.specs.Pairs.{Terms, Pair, isOpen, partOn}
+use Rattle.book.specs.Pairs.{Terms, Pair, isOpen, hasPartOn}
 use Rattle.book.specs.SideOfFail.{Sides, sidesAtClose, sidesWhenLate}
 pub use Rattle.book.specs.declared.cells.Figure.{Figure}
 pub use Rattle.book.specs.declared.cells.Cell.{Cell}
@@ -77,7 +77,7 @@ latePostings today e = lateFrom (today - e .isd) (e .isd) e
 
 -- Settle: today gains the part.
 abbrev pub partPosting : ℕ → ℕ → Pair → Posting
-partPosting today part p = record { day = today; terms = p .terms; figures = partFigures (not (partOn today p)) part }
+partPosting today part p = record { day = today; terms = p .terms; figures = partFigures (not (hasPartOn today p)) part }
 
 -- Close counts each open pair with ISD ≤ today as failing, 2 SIs and twice the rest.
 abbrev pub failing : ℕ → Pair → Bool

@@ -1,5 +1,5 @@
 -- The limits of document 01, each said once. Assumes nothing.
-use Prim.Native.Nat.{ℕ}
+use Prim.Native.Nat.{ℕ, _*_}
 
 -- business days, 0 to 63
 abbrev pub dayLimit : ℕ
@@ -11,7 +11,7 @@ categoryCount = 9
 
 -- a cell for each day and category
 abbrev pub cellCount : ℕ
-cellCount = 576
+cellCount = dayLimit * categoryCount
 
 -- pairs open at one time
 abbrev pub openLimit : ℕ

@@ -114,8 +114,8 @@ abbrev pub isOpen : Pair → Bool
 isOpen p = ltb 0 (p .rest)
 
 -- a part of the pair settled on that day
-abbrev pub partOn : ℕ → Pair → Bool
-partOn day p = eqb (p .«last_part») (suc day)
+abbrev pub hasPartOn : ℕ → Pair → Bool
+hasPartOn day p = eqb (p .«last_part») (suc day)
 
 -- ---- what a call changes of a pair
 

@@ -17,7 +17,7 @@ const DAYS: usize = 64;
 const CATEGORIES: usize = 9;
 
 // Cells, one for each day and category.
-pub const CELLS: usize = 576;
+pub const CELLS: usize = DAYS * CATEGORIES;
 
 // So many SIs, and their value.
 pub struct Figure {

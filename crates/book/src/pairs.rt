@@ -22,7 +22,7 @@ pub enum Holds {
     Both,
 }
 
-// What the pair lacks, 0 nothing, 1 securities, 2 cash. The lack is document 01's term for a cause without a hold.
+// What the pair lacks, 0 nothing, 1 securities, 2 cash. The lack is a term of document 01.
 pub enum Lack {
     Nothing,
     Securities,

@@ -13,7 +13,7 @@ use borrow.Author.Tests.{eqb-true}
 use Rattle.book.specs.Limits.{openLimit}
 use Rattle.book.specs.Sums.{only, total}
 use Rattle.book.specs.Pairs.{Pair, blank, isOpen}
-use Rattle.book.specs.Calls.{placesOf, places, firstPlace, openCount}
+use Rattle.book.specs.Calls.{withBlanks, places, firstPlace}
 use Rattle.book.proofs.Theorems.Sums.{tests}
 
 -- the pair of a place
@@ -34,14 +34,14 @@ Apart ps =
 -- ---- the places are the array's elements
 
 -- as many places as there are pairs
-places-of : (ps : List Pair) → placesOf (length ps) ps ≡ ps
+places-of : (ps : List Pair) → withBlanks (length ps) ps ≡ ps
 places-of [] = refl
 places-of (p ∷ ps) = ap (p ∷_) (places-of ps)
 
 -- the places of an array of 1,024 pairs are its pairs
 pub places-all : (ps : List Pair) → length ps ≡ openLimit → places ps ≡ ps
 unfolding places
-places-all ps l = ap (λ (n : ℕ). placesOf n ps) (sym l) ∙ places-of ps
+places-all ps l = ap (λ (n : ℕ). withBlanks n ps) (sym l) ∙ places-of ps
 
 -- ---- a search
 
@@ -71,15 +71,16 @@ none-passes test (p ∷ ps) h = go (test p) h (none-passes test ps)
     go true h k = absurd (not-suc-le-zero h)
     go false h k = let i = k (le-of-suc-le-suc h) in omega arith
 
--- where fewer pairs are open than there are places, a free one is found
-pub free-found : (ps : List Pair) → openCount ps < length ps → freeIn ps < length ps
+-- where fewer pairs pass than there are places, one that doesn't is found
+pub failing-found : (test : Pair → Bool) (ps : List Pair) → total (λ p. only (test p) 1) ps < length ps
+    → firstPlace (λ p. not (test p)) ps < length ps
 unfolding firstPlace
-free-found [] h = absurd (not-suc-le-zero h)
-free-found (p ∷ ps) h = go (isOpen p) h (free-found ps)
+failing-found test [] h = absurd (not-suc-le-zero h)
+failing-found test (p ∷ ps) h = go (test p) h (failing-found test ps)
   where
-    go : (t : Bool) → only t 1 + openCount ps < suc (length ps)
-        → (openCount ps < length ps → freeIn ps < length ps)
-        → cond (not t) zero (suc (freeIn ps)) < suc (length ps)
+    go : (t : Bool) → only t 1 + total (λ p. only (test p) 1) ps < suc (length ps)
+        → (total (λ p. only (test p) 1) ps < length ps → firstPlace (λ p. not (test p)) ps < length ps)
+        → cond (not t) zero (suc (firstPlace (λ p. not (test p)) ps)) < suc (length ps)
     go true h k = let i = k (omega arith) in omega arith
     go false h k = omega arith
 

@@ -12,6 +12,8 @@ use Rattle.book.specs.Figures.{latePostings, failPostings}
 use Rattle.book.specs.Answers.{Call, answer}
 use Rattle.book.specs.History.{
   isClose,
+  settles,
+  cancels,
   dayOf,
   pairs,
   parts,
@@ -21,7 +23,7 @@ use Rattle.book.specs.History.{
   beforeCancel,
   sumOver,
 }
-use Rattle.book.specs.Counted.{replayed, life, highestId, openOnly, viewOfCalls}
+use Rattle.book.specs.Counted.{acted, replayed, posts, life, highestId, openOnly, viewOfCalls}
 use Rattle.book.proofs.Theorems.Sums.{clash}
 use Rattle.book.proofs.Theorems.Allowed.{Allowed, allowed}
 
@@ -62,8 +64,7 @@ concerns i (Call.Cancel id) = eqb id i
 concerns i Call.Close = false
 
 -- the readings of id i are those before the call
-pub record Untouched (c : Call) (h : List Call) (i : ℕ) : Type 0 where
-  pub replay : replayed (c ∷ h) i ≡ replayed h i
+pub record SameReadings (c : Call) (h : List Call) (i : ℕ) : Type 0 where
   pub lived : life (c ∷ h) i ≡ life h i
   pub part : parts (c ∷ h) i ≡ parts h i
   pub settle : (d : ℕ) → settledOn (c ∷ h) d i ≡ settledOn h d i
@@ -71,55 +72,34 @@ pub record Untouched (c : Call) (h : List Call) (i : ℕ) : Type 0 where
   pub cancelOn : (d : ℕ) → cancelledOn (c ∷ h) d i ≡ cancelledOn h d i
   pub cancelFrom : (d : ℕ) → beforeCancel (c ∷ h) d i ≡ beforeCancel h d i
 
--- a call that names another id, and is no close, leaves them
-pub untouched : (c : Call) (h : List Call) (i : ℕ) → isClose c ≡ false → concerns i c ≡ false → Untouched c h i
-unfolding replayed life parts settledOn cancelledBefore cancelledOn beforeCancel
-untouched (Call.Enter e) h i k n = record {
-  replay = rw n refl;
-  lived = rw n refl;
-  part = refl;
-  settle = λ d. refl;
-  cancelBefore = λ d. refl;
-  cancelOn = λ d. refl;
-  cancelFrom = λ d. refl;
+-- a call that settles and cancels nothing of it, and posts nothing for it, leaves them
+pub same-readings : (c : Call) (h : List Call) (i : ℕ) → settles i c ≡ false → cancels i c ≡ false
+    → posts (dayOf h) i c (replayed h i) ≡ [] → SameReadings c h i
+unfolding life parts settledOn cancelledBefore cancelledOn beforeCancel
+same-readings c h i s x p = record {
+  lived = rw p refl;
+  part = rw s refl;
+  settle = λ d. rw s refl;
+  cancelBefore = λ d. rw x refl;
+  cancelOn = λ d. rw x refl;
+  cancelFrom = λ d. rw x refl;
 }
-untouched (Call.Hold id side on) h i k n = record {
-  replay = rw n refl;
-  lived = refl;
-  part = refl;
-  settle = λ d. refl;
-  cancelBefore = λ d. refl;
-  cancelOn = λ d. refl;
-  cancelFrom = λ d. refl;
-}
-untouched (Call.Lack id lack) h i k n = record {
-  replay = rw n refl;
-  lived = refl;
-  part = refl;
-  settle = λ d. refl;
-  cancelBefore = λ d. refl;
-  cancelOn = λ d. refl;
-  cancelFrom = λ d. refl;
-}
-untouched (Call.Settle id part) h i k n = record {
-  replay = rw n refl;
-  lived = rw n refl;
-  part = rw n refl;
-  settle = λ d. rw n refl;
-  cancelBefore = λ d. refl;
-  cancelOn = λ d. refl;
-  cancelFrom = λ d. refl;
-}
-untouched (Call.Cancel id) h i k n = record {
-  replay = rw n refl;
-  lived = refl;
-  part = refl;
-  settle = λ d. refl;
-  cancelBefore = λ d. rw n refl;
-  cancelOn = λ d. rw n refl;
-  cancelFrom = λ d. rw n refl;
-}
-untouched Call.Close h i k n = clash refl k
+
+-- the call leaves the pair of id i alone
+pub record Other (c : Call) (i : ℕ) : Type 0 where
+  pub settles : settles i c ≡ false
+  pub cancels : cancels i c ≡ false
+  pub posts : (day : ℕ) (p : Pair) → posts day i c p ≡ []
+  pub acts : (day : ℕ) (p : Pair) → acted day i c p ≡ p
+
+-- so does one that names another id, and is no close
+pub other : (c : Call) (i : ℕ) → isClose c ≡ false → concerns i c ≡ false → Other c i
+other (Call.Enter e) i k n = record { settles = refl; cancels = refl; posts = λ d p. rw n refl; acts = λ d p. rw n refl }
+other (Call.Hold id side on) i k n = record { settles = refl; cancels = refl; posts = λ d p. refl; acts = λ d p. rw n refl }
+other (Call.Lack id lack) i k n = record { settles = refl; cancels = refl; posts = λ d p. refl; acts = λ d p. rw n refl }
+other (Call.Settle id part) i k n = record { settles = n; cancels = refl; posts = λ d p. rw n refl; acts = λ d p. rw n refl }
+other (Call.Cancel id) i k n = record { settles = refl; cancels = n; posts = λ d p. refl; acts = λ d p. rw n refl }
+other Call.Close i k n = clash refl k
 
 -- ---- an id that no accepted call has
 
@@ -133,24 +113,27 @@ pub record Unused (h : List Call) (i : ℕ) : Type 0 where
   pub noCancelBefore : (d : ℕ) → cancelledBefore h d i ≡ false
   pub noCancelOn : (d : ℕ) → cancelledOn h d i ≡ false
 
--- a call that leaves its readings, and enters no pair of it, leaves it unused
-unused-untouched : (c : Call) (h : List Call) (i : ℕ) → Untouched c h i → ((w : Entry → ℕ) → weightOf w (c ∷ h) i ≡ 0)
+-- a call that leaves it alone, and enters no pair of it, leaves it unused
+unused-other : (c : Call) (h : List Call) (i : ℕ) → Other c i → ((w : Entry → ℕ) → weightOf w (c ∷ h) i ≡ 0)
     → Unused h i → Unused (c ∷ h) i
-unused-untouched c h i S new U = record {
-  noPair = new;
-  noReplay = S .replay ∙ U .noReplay;
-  noLife = S .lived ∙ U .noLife;
-  noPart = S .part ∙ U .noPart;
-  noSettle = λ d. S .settle d ∙ U .noSettle d;
-  noCancelBefore = λ d. S .cancelBefore d ∙ U .noCancelBefore d;
-  noCancelOn = λ d. S .cancelOn d ∙ U .noCancelOn d;
-}
+unfolding replayed
+unused-other c h i O new U =
+    let S = same-readings c h i (O .settles) (O .cancels) (O .posts (dayOf h) (replayed h i)) in
+    record {
+      noPair = new;
+      noReplay = O .acts (dayOf h) (replayed h i) ∙ U .noReplay;
+      noLife = S .lived ∙ U .noLife;
+      noPart = S .part ∙ U .noPart;
+      noSettle = λ d. S .settle d ∙ U .noSettle d;
+      noCancelBefore = λ d. S .cancelBefore d ∙ U .noCancelBefore d;
+      noCancelOn = λ d. S .cancelOn d ∙ U .noCancelOn d;
+    }
 
 -- an enter of a lower id leaves it unused
 unused-enter : (e : Entry) (h : List Call) (i : ℕ) → e .id < i → Unused h i → Unused (Call.Enter e ∷ h) i
 unfolding pairs
 unused-enter e h i l U =
-    unused-untouched (Call.Enter e) h i (untouched (Call.Enter e) h i refl (ne-eqb (e .id) i (omega arith)))
+    unused-other (Call.Enter e) h i (other (Call.Enter e) i refl (ne-eqb (e .id) i (omega arith)))
     (λ w. rw (ne-eqb i (e .id) (omega arith)) (let s = U .noPair w in omega arith)) U
 
 -- a close leaves it unused
@@ -175,7 +158,7 @@ unused-open : (c : Call) (h : List Call) (i id : ℕ)
     → isClose c ≡ false → concerns i c ≡ eqb id i → pairs (c ∷ h) ≡ pairs h
     → isOpen (viewOfCalls h .pair id) ≡ true → Unused h i → Unused (c ∷ h) i
 unused-open c h i id k names same o U =
-    unused-untouched c h i (untouched c h i k (names ∙ not-used h i id U o)) (λ w. rw same (U .noPair w)) U
+    unused-other c h i (other c i k (names ∙ not-used h i id U o)) (λ w. rw same (U .noPair w)) U
 
 -- any accepted call leaves it unused where it is above all accepted ids
 unused-step : (c : Call) (h : List Call) → Allowed (viewOfCalls h) c → (i : ℕ) → highestId (pairs (c ∷ h)) < i

@@ -32,7 +32,7 @@ use Rattle.book.specs.Counted.{replayed, highestId, openOnly, viewOfCall
 use Rattle.book.proofs.Theorems.Sums.{clash, total-replicate}
 use Rattle.book.proofs.Theorems.Allowed.{Allowed, EnterAllowed, allowed}
 use Rattle.book.proofs.Theorems.Proper.{Proper, open-replayed, unused}
-use Rattle.book.proofs.Theorems.Places.{pairAt, freeIn, places-all, found-passes, free-found}
+use Rattle.book.proofs.Theorems.Places.{pairAt, freeIn, places-all, found-passes, failing-found}
 use Rattle.book.proofs.Theorems.Mirror.{
   once,
   replayedWeight,
@@ -95,7 +95,7 @@ placed-new b h e M P A =
     let r = M .placed .room in
     let s = count-same b h M P in
     let a = A .room in
-    let l = free-found (b .pairs) (omega arith) in
+    let l = failing-found isOpen (b .pairs) (omega arith) in
     let free = not-true (isOpen (pairAt (b .pairs) (freeIn (b .pairs)))) (found-passes (λ p. not (isOpen p)) (b .pairs) l) in
     rw (places-all (b .pairs) r)
     (placed-entered (b .pairs) h (M .placed) e (unused h P (e .id) (A .above)) (freeIn (b .pairs)) l free)

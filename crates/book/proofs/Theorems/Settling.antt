@@ -9,7 +9,7 @@ use mathlib.Core.List.{List, _∷_}
 use lib.Dec.{leb, ltb, eqb}
 use borrow.Author.Tests.{ne-eqb, le-ltb, lt-ltb, le-leb}
 use Rattle.book.specs.Sums.{only}
-use Rattle.book.specs.Pairs.{Entry, partOn, withPart, ended}
+use Rattle.book.specs.Pairs.{Entry, hasPartOn, withPart, ended}
 use Rattle.book.specs.Figures.{Cell, partFigures}
 use Rattle.book.specs.Answers.{Call}
 use Rattle.book.specs.History.{
@@ -108,7 +108,7 @@ module _ (h : List Call) (e : Entry) (q : ℕ) where
 
   -- today gains the part
   settle-posted : (f : Cell → ℕ) (d : ℕ) → postedOn f d (life (Call.Settle (e .id) q ∷ h) (e .id))
-      ≡ only (eqb (dayOf h) d) (f (partFigures (not (partOn (dayOf h) (replayed h (e .id)))) q)) + postedOn f d (life h (e .id))
+      ≡ only (eqb (dayOf h) d) (f (partFigures (not (hasPartOn (dayOf h) (replayed h (e .id)))) q)) + postedOn f d (life h (e .id))
   unfolding life
   settle-posted f d = rw (eqb-same (e .id)) refl
 
@@ -118,7 +118,7 @@ module _ (h : List Call) (e : Entry) (q : ℕ) where
   settle-same m = record {
     fails = λ d.
         let p = settle-posted (failsIn m) d in
-        let z = rw (part-fails-none m (not (partOn (dayOf h) (replayed h (e .id)))) q, only-zero (eqb (dayOf h) d)) at p in
+        let z = rw (part-fails-none m (not (hasPartOn (dayOf h) (replayed h (e .id)))) q, only-zero (eqb (dayOf h) d)) at p in
         omega arith;
     settled = λ d n. let z = rw (ne-eqb (dayOf h) d n) at (settle-posted (settledIn m) d) in omega arith;
     due = λ d l. settle-due m d;
