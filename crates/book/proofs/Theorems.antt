@@ -25,4 +25,5 @@ pub mod Posted
 pub mod Counting
 -- so the rows balance, and no sum reaches its cap
 pub mod Demand3
+pub mod CodeDemand3
 pub mod Exactness

@@ -4,7 +4,7 @@ use mathlib.Core.Path.{_≡_, refl}
 use mathlib.Core.List.{List, reverse}
 use Rattle.book.specs.Answers.{Call}
 use Rattle.book.specs.Calls.{Book}
-use Rattle.book.specs.Rows.{cellOf}
+use Rattle.book.specs.Rows.{cellOf, rowOf}
 use Rattle.book.specs.History.{Measure, acceptedCalls, dayOf, closed, pairs, parts, dueOf, cancelledOf, partSettledOf}
 use Rattle.book.specs.History.{settledOn, cancelledBefore, cancelledOn, beforeCancel, beforeClose}
 use Rattle.book.specs.Balance.{afterCalls, bookAfter, acceptedOf, Balances}
@@ -46,5 +46,5 @@ worked-figures = refl
 -- The two sides are those of the balance.
 pub sides-balance : (m : Measure) (b : Book) (h : List Call) (day category : ℕ)
     → leftSide m b h day category ≡ rightSide m b h day category
-    → Balances m b h day category
+    → Balances m (rowOf b) h day category
 sides-balance m b h day category same = same

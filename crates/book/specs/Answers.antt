@@ -58,6 +58,10 @@ accepted = 0
 abbrev pub isFinished : View → Bool
 isFinished v = leb dayLimit (v .today)
 
+-- 2 otherwise: hold's side is 1 or 2, and its on/off 0 or 1
+abbrev pub isHold : ℕ → ℕ → Bool
+isHold side on = within 1 2 side && leb on 1
+
 -- 3: enter, id not above all accepted ids
 abbrev pub isSpent : View → ℕ → Bool
 isSpent v id = leb id (v .highest)
@@ -95,7 +99,7 @@ answer v (Call.Enter e) =
     accepted)))
 answer v (Call.Hold id side on) =
     refused (isFinished v) 1
-    (refused (not (within 1 2 side && leb on 1)) 2
+    (refused (not (isHold side on)) 2
     (refused (notOpen v id) 5
     accepted))
 answer v (Call.Lack id lack) =

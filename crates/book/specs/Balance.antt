@@ -8,7 +8,7 @@ use Rattle.book.specs.Limits.{categoryCount}
 use Rattle.book.specs.Figures.{Figure}
 use Rattle.book.specs.Answers.{Call}
 use Rattle.book.specs.Calls.{Book, answerOf, after, freshBook}
-use Rattle.book.specs.Rows.{rowOf, figures, refusedBy, rowAnswer}
+use Rattle.book.specs.Rows.{Row, rowOf, figures, refusedBy, rowAnswer}
 use Rattle.book.specs.History.{Event, acceptedCalls, closed, Measure, number, value, newlyDue, cancelled, partSettled}
 
 -- ---- a list of calls
@@ -57,24 +57,28 @@ abbrev pub inMeasure : Measure → Figure → ℕ
 inMeasure number f = f .number
 inMeasure value f = f .value
 
+-- the row of each day and category
+abbrev pub Rows : Type 0
+Rows = ℕ → ℕ → Row
+
 -- securities and cash fails together
-abbrev pub failsOf : Measure → Book → ℕ → ℕ → ℕ
-failsOf m b day category = inMeasure m (rowOf b day category .securities) + inMeasure m (rowOf b day category .cash)
+abbrev pub failsOf : Measure → Rows → ℕ → ℕ → ℕ
+failsOf m rows day category = inMeasure m (rows day category .securities) + inMeasure m (rows day category .cash)
 
 -- in the row of the day before, same category; before day 0 there are no fails
-abbrev pub previousFails : Measure → Book → ℕ → ℕ → ℕ
-previousFails m b zero category = 0
-previousFails m b (suc day) category = failsOf m b day category
+abbrev pub previousFails : Measure → Rows → ℕ → ℕ → ℕ
+previousFails m rows zero category = 0
+previousFails m rows (suc day) category = failsOf m rows day category
 
 -- settled + securities fails + cash fails + cancelled = previous day's fails + newly due, and in number 2 more on the
 -- right for each part-settled pair
-abbrev pub Balances : Measure → Book → List Call → ℕ → ℕ → Type 0
-Balances m b h day category =
-    inMeasure m (rowOf b day category .settled)
-    + inMeasure m (rowOf b day category .securities)
-    + inMeasure m (rowOf b day category .cash)
+abbrev pub Balances : Measure → Rows → List Call → ℕ → ℕ → Type 0
+Balances m rows h day category =
+    inMeasure m (rows day category .settled)
+    + inMeasure m (rows day category .securities)
+    + inMeasure m (rows day category .cash)
     + cancelled m h day category
-    ≡ previousFails m b day category + newlyDue m h day category + partSettled m h day category
+    ≡ previousFails m rows day category + newlyDue m h day category + partSettled m h day category
 
 -- After every list of calls, the row of each closed day and each category, 0 to 9, balances.
 abbrev pub Demand3 : Type 0
@@ -82,4 +86,4 @@ Demand3 =
     (calls : List Call) (m : Measure) (day category : ℕ)
     → category ≤ categoryCount
     → T (closed (acceptedOf calls) day)
-    → Balances m (bookAfter calls) (acceptedOf calls) day category
+    → Balances m (rowOf (bookAfter calls)) (acceptedOf calls) day category

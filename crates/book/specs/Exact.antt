@@ -31,14 +31,14 @@ pub record Exact (b : Book) : Type 0 where
   -- total is settled + securities fails + cash fails
   pub totals : (m : Measure) (day category : ℕ) → day < dayLimit → category ≤ categoryCount
       → totalOn m b category day
-      ≡ inMeasure m (rowOf b day category .settled) + failsOf m b day category
+      ≡ inMeasure m (rowOf b day category .settled) + failsOf m (rowOf b) day category
   -- category 0 is the sum of categories 1 to 9
   pub categories : (figure : Column) (day : ℕ) → day < dayLimit
       → column figure (cellOf (b .cells) day 0) ≡ sumFrom (λ c. column figure (cellOf (b .cells) day c)) 1 categoryCount
   pub rows : (m : Measure) (day category : ℕ) → day < dayLimit → category ≤ categoryCount → totalOn m b category day ≤ most m
   -- ISD value is a part of the fails
   pub isdValues : (day category : ℕ) → day < dayLimit → category ≤ categoryCount
-      → rowOf b day category .«isd_value» ≤ failsOf value b day category
+      → rowOf b day category .«isd_value» ≤ failsOf value (rowOf b) day category
   pub runs : (m : Measure) (category first n : ℕ) → first + n ≤ dayLimit → category ≤ categoryCount
       → sumFrom (totalOn m b category) first n ≤ n * most m
 

@@ -4,13 +4,16 @@ pub mod Pairs
 pub mod SideOfFail
 pub mod SideTable
 pub mod Figures
-pub mod Placed
 pub mod Answers
 pub mod Calls
+pub mod Applied
 pub mod Rows
 pub mod History
 pub mod Balance
+pub mod CodeRuns
 pub mod Counted
 pub mod Exact
 pub mod Edges
 pub mod Worked
+pub mod Placed
+pub mod AtPlace

@@ -214,7 +214,7 @@ leftSide m b h day category =
 
 -- previous day's fails + newly due + part-settled
 abbrev pub rightSide : Measure → Book → List Call → ℕ → ℕ → ℕ
-rightSide m b h day category = previousFails m b day category + newlyDue m h day category + partSettled m h day category
+rightSide m b h day category = previousFails m (rowOf b) day category + newlyDue m h day category + partSettled m h day category
 
 -- the readings of a day and category, its row, and the two sides of its balance
 pub record DayFigures : Type 0 where

@@ -1,10 +1,13 @@
 // The book is a value: each call takes it and hands it back. Document 01, 'Form'.
-use crate::cells::CELLS;
+ghost use mathlib.Core.Path.{_≡_};
+ghost use Rattle.book.specs.Calls.{freshBook};
+ghost use Rattle.book.specs.Applied.{Applied};
+use crate::calls::Answer;
+use crate::calls::Call;
 use crate::cells::Cell;
+use crate::limits::CELLS;
+use crate::limits::PAIRS;
 use crate::pairs::Pair;
-
-// Pairs open at one time.
-pub const PAIRS: usize = 1024;
 
 // `last_id` is the highest id accepted so far. A place of `pairs` is free where its pair is not open. The cells lie
 // in one flat array by day and category, nine to a day.
@@ -13,4 +16,42 @@ pub struct Book {
     pub cells: [Cell; CELLS],
     pub today: u64,
     pub last_id: u64,
+}
+
+// What a call hands back: the book, and whether the call was accepted or why not.
+pub struct Outcome {
+    pub book: Book,
+    pub answer: Answer,
+}
+
+impl Book {
+    // A book that holds no pair, on day 0.
+    pub fn fresh() -> Book
+        ensures { λ r. ⌜ r ≡ freshBook ⌝ }
+    {
+        let pair = Pair::blank();
+        let cell = Cell::none();
+        let pairs = [pair; PAIRS];
+        let cells = [cell; CELLS];
+        Book {
+            pairs: pairs,
+            cells: cells,
+            today: 0,
+            last_id: 0,
+        }
+    }
+
+    // Any of the six calls.
+    pub fn apply(self, call: Call) -> Outcome
+        ensures { λ r. ⌜ Applied self call r ⌝ }
+    {
+        match call {
+            Call::Enter(entry) => self.enter(entry),
+            Call::Hold(id, side, on) => self.hold(id, side, on),
+            Call::Lack(id, lack) => self.lack(id, lack),
+            Call::Settle(id, part) => self.settle(id, part),
+            Call::Cancel(id) => self.cancel(id),
+            Call::Close => self.close(),
+        }
+    }
 }

@@ -1,4 +1,6 @@
 // The six calls with their values, and what comes back. Document 01, 'The six calls' and 'Numbers given back'.
+ghost use mathlib.Core.Path.{_≡_};
+ghost use Rattle.book.specs.Answers.{refusalNumber, answerNumber};
 use crate::pairs::Entry;
 
 pub enum Call {
@@ -31,4 +33,35 @@ pub enum Refusal {
 pub enum Answer {
     Accepted,
     Refused(Refusal),
+}
+
+impl Refusal {
+    // Its number in document 01.
+    pub fn number(self) -> u64
+        ensures { λ r. ⌜ r ≡ refusalNumber self ⌝ }
+    {
+        match self {
+            Refusal::Finished => 1,
+            Refusal::OutOfRange => 2,
+            Refusal::IdSpent => 3,
+            Refusal::BookFull => 4,
+            Refusal::NotOpen => 5,
+            Refusal::NotDue => 6,
+            Refusal::OnHold => 7,
+            Refusal::WrongPart => 8,
+            Refusal::NotClosed => 9,
+        }
+    }
+}
+
+impl Answer {
+    // The number that comes back, 0 where none does.
+    pub fn number(self) -> u64
+        ensures { λ r. ⌜ r ≡ answerNumber self ⌝ }
+    {
+        match self {
+            Answer::Accepted => 0,
+            Answer::Refused(refusal) => refusal.number(),
+        }
+    }
 }

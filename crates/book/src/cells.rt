@@ -5,19 +5,10 @@ ghost use Prim.Native.Nat.{_+_, _-_, _*_, min};
 ghost use Rattle.book.specs.Sums.{only, capped};
 ghost use Rattle.book.specs.Figures.{nothing, none, partFigures, failFigures, addFigure, addCell};
 ghost use Rattle.book.specs.Placed.{Placed};
+use crate::limits::CATEGORIES;
+use crate::limits::DAYS;
+use crate::limits::LARGEST;
 use crate::sides::Sides;
-
-// The largest number of 64 bits, where a sum stops.
-const LARGEST: u64 = 18446744073709551615;
-
-// Business days.
-const DAYS: usize = 64;
-
-// Categories of a day.
-const CATEGORIES: usize = 9;
-
-// Cells, one for each day and category.
-pub const CELLS: usize = DAYS * CATEGORIES;
 
 // So many SIs, and their value.
 pub struct Figure {
@@ -150,14 +141,14 @@ impl Cell {
 }
 
 // The smaller of two numbers.
-fn least(a: usize, b: usize) -> usize
+fn least(a: u64, b: u64) -> u64
     ensures { λ r. ⌜ r ≡ min a b ⌝ }
 {
     if a <= b { a } else { b }
 }
 
 // One less, and 0 for 0.
-fn one_less(n: usize) -> usize
+fn one_less(n: u64) -> u64
     ensures { λ r. ⌜ r ≡ n - 1 ⌝ }
 {
     if n == 0 { 0 } else { n - 1 }
@@ -168,7 +159,7 @@ fn one_less(n: usize) -> usize
 pub fn place(day: u64, category: u64) -> usize
     ensures { λ r. ⌜ Placed day category r ⌝ }
 {
-    let days = least(day as usize, DAYS);
-    let categories = least(one_less(category as usize), CELLS);
-    least(CATEGORIES * days + categories, CELLS - 1)
+    let days = least(day, DAYS);
+    let categories = least(one_less(category), DAYS * CATEGORIES);
+    least(CATEGORIES * days + categories, DAYS * CATEGORIES - 1) as usize
 }

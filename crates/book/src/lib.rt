@@ -1,8 +1,13 @@
 // The settlement fails book: matched pairs of settlement instructions, followed through 64 business days.
 // Document 01 gives the rules; its definitions stand in specs/, and each contract is an equation with one of them.
+pub mod limits; // the limits of document 01
+mod numbers; // a range, and numbers of fewer bits
 pub mod pairs; // a pair: its values, holds, lack and rest
 pub mod calls; // the six calls, and what comes back
 pub mod sides; // to which side a failing pair's two SIs go
 pub mod cells; // the figures of a day and category
-pub mod rows; // a row, as it is given
-pub mod book; // the book itself
+pub mod book; // the book itself: fresh, and any of the six calls
+mod entering; // enter
+mod changing; // hold, lack, settle and cancel
+mod closing; // close
+pub mod rows; // a row, and how it is given

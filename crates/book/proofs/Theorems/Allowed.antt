@@ -67,7 +67,7 @@ from-within low high n h =
     let b = and-true (leb low n) (leb n high) h in (leb-true low n (b .0), leb-true n high (b .1))
 
 -- an enter that passes the test of its ranges has each value in its range
-in-ranges : (e : Entry) → inRange e ≡ true → Ranges e
+pub in-ranges : (e : Entry) → inRange e ≡ true → Ranges e
 in-ranges e h =
     let r5 = and-true _ (within 1 largestAmount (e .amount)) h in
     let r4 = and-true _ (within 1 2 (e .side)) (r5 .0) in
@@ -81,6 +81,14 @@ in-ranges e h =
       amount = from-within 1 largestAmount (e .amount) (r5 .1);
     }
 
+-- an accepted enter passes the test of its ranges
+pub enter-in-range : (v : View) (e : Entry) → answer v (Call.Enter e) ≡ 0 → inRange e ≡ true
+unfolding answer
+enter-in-range v e h =
+    let a = not-refused (isFinished v) 0 _ h in
+    let b = not-refused (not (inRange e)) 1 _ (a .1) in
+    not-false (inRange e) (b .0)
+
 -- None of its refusals applies to an accepted call.
 pub allowed : (v : View) (c : Call) → answer v c ≡ 0 → Allowed v c
 unfolding answer
@@ -91,7 +99,7 @@ allowed v (Call.Enter e) h =
     let d = not-refused (isFull v) 3 _ (c .1) in
     record {
       running = omega (arith, tests);
-      ranges = in-ranges e (not-false (inRange e) (b .0));
+      ranges = in-ranges e (enter-in-range v e h);
       above = omega (arith, tests);
       room = omega (arith, tests);
     }

@@ -28,7 +28,7 @@ use Rattle.book.proofs.Theorems.Counting.{counted-add, rows-lives}
 -- ---- the days of a proper list
 
 -- at most 64 days are closed
-days-most : (h : List Call) → Proper h → dayOf h ≤ dayLimit
+pub days-most : (h : List Call) → Proper h → dayOf h ≤ dayLimit
 unfolding dayOf viewOfCalls
 days-most [] P = omega arith
 days-most (Call.Enter e ∷ h) P = days-most h (P .1)
@@ -90,7 +90,7 @@ module _ (calls : List Call) (m : Measure) (category : ℕ) (nine : category ≤
   settled-row day l = rows-lives calls (settled m) day category l nine
 
   -- so are the fails
-  pub fails-row : (day : ℕ) → day < dayLimit → failsOf m (bookAfter calls) day category ≡ counted (failsIn m) selects h day
+  pub fails-row : (day : ℕ) → day < dayLimit → failsOf m (rowOf (bookAfter calls)) day category ≡ counted (failsIn m) selects h day
   fails-row day l =
       let a = rows-lives calls (securities m) day category l nine in
       let b = rows-lives calls (cash m) day category l nine in
@@ -98,7 +98,7 @@ module _ (calls : List Call) (m : Measure) (category : ℕ) (nine : category ≤
       omega arith
 
   -- and those of the day before
-  previous-row : (day : ℕ) → day < dayLimit → previousFails m (bookAfter calls) day category ≡ previousCounted m selects h day
+  previous-row : (day : ℕ) → day < dayLimit → previousFails m (rowOf (bookAfter calls)) day category ≡ previousCounted m selects h day
   previous-row zero l = refl
   previous-row (suc day) l = fails-row day (omega arith)
 

@@ -24,7 +24,7 @@ use Rattle.book.proofs.Theorems.Demand3.{settled-row, fails-row}
 module _ (calls : List Call) where
   -- what settled and what failed, added up
   abbrev plain : Measure → ℕ → ℕ → ℕ
-  plain m day category = inMeasure m (rowOf (bookAfter calls) day category .settled) + failsOf m (bookAfter calls) day category
+  plain m day category = inMeasure m (rowOf (bookAfter calls) day category .settled) + failsOf m (rowOf (bookAfter calls)) day category
 
   -- that is no more than the most of a row
   plain-most : (m : Measure) (day category : ℕ) → day < dayLimit → category ≤ 9 → plain m day category ≤ most m
@@ -51,7 +51,7 @@ module _ (calls : List Call) where
 
   -- ISD value is a part of the fails
   isd-most : (day category : ℕ) → day < dayLimit → category ≤ 9
-      → rowOf (bookAfter calls) day category .«isd_value» ≤ failsOf value (bookAfter calls) day category
+      → rowOf (bookAfter calls) day category .«isd_value» ≤ failsOf value (rowOf (bookAfter calls)) day category
   isd-most day category l nine =
       let a = rows-lives calls isdValue day category l nine in
       let b = isd-in-fails (λ e. counts category (e .category)) (acceptedOf calls) day in

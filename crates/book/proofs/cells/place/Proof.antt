@@ -7,7 +7,7 @@ use Rattle.book.proofs.cells.place.Tie as tie
 
 returns : tie.Need-returns
 unfolding place
-returns c = search needs
+returns c = record { value = search needs; bound = search needs }
 
 pub place-spec : {M : Type 1} → statement M
 place-spec =
@@ -15,7 +15,9 @@ place-spec =
     (tie.spec
     (λ c κs. search needs)
     (λ c κs. search needs)
+    (λ c. search needs)
     (λ c κs. search needs)
+    (λ c. search needs)
     (λ c. search needs)
     (λ c. search needs)
     (λ c. search needs)

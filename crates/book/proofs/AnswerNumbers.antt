@@ -2,10 +2,10 @@
 -- A map to numbers that another takes back is injective. Assumes nothing.
 use Prim.Native.Nat.{ℕ}
 use mathlib.Core.Path.{_≡_, refl, sym, ap, _∙_}
-use mathlib.Core.Bool.{cond}
+use mathlib.Core.Bool.{false, cond}
 use lib.Dec.{eqb}
 use Rattle.book.specs.Pairs.{Kind, Side, Lack, kindNumber, kindOf, sideNumber, sideOf, lackNumber, lackOf}
-use Rattle.book.specs.Answers.{Refusal, Answer, refusalNumber, answerNumber}
+use Rattle.book.specs.Answers.{Refusal, Answer, refusalNumber, answerNumber, isAccepted}
 use Rattle.book.specs.Rows.{RowAnswer, givenBy}
 
 -- A map that another takes back is injective.
@@ -77,6 +77,18 @@ answer-back (Answer.Refused Refusal.NotClosed) = refl
 -- Two answers of one number are the same.
 pub answer-injective : (a b : Answer) → answerNumber a ≡ answerNumber b → a ≡ b
 answer-injective = injective answerNumber answerOf answer-back
+
+-- A refusal's number is not that of an accepted call.
+pub not-accepted : (r : Refusal) → isAccepted (refusalNumber r) ≡ false
+not-accepted Refusal.Finished = refl
+not-accepted Refusal.OutOfRange = refl
+not-accepted Refusal.IdSpent = refl
+not-accepted Refusal.BookFull = refl
+not-accepted Refusal.NotOpen = refl
+not-accepted Refusal.NotDue = refl
+not-accepted Refusal.OnHold = refl
+not-accepted Refusal.WrongPart = refl
+not-accepted Refusal.NotClosed = refl
 
 -- Two refusals of one number are the same.
 pub refusal-injective : (a b : Refusal) → refusalNumber a ≡ refusalNumber b → a ≡ b

@@ -1,0 +1,103 @@
+// Times the proved calls against the same book in plain Rust, in one run, and measures the stack that they need.
+mod book;
+
+use book::{Book, Entry, PAIRS};
+use std::hint::black_box;
+use std::time::Instant;
+
+extern "C" {
+    fn closes(times: u64) -> u64;
+    fn holds(times: u64) -> u64;
+    fn settles(times: u64) -> u64;
+}
+
+// The book that crates/timing starts from: 1,024 open pairs over nine categories and four kinds, all due on day 0.
+fn full() -> Book {
+    let mut book = Book::fresh();
+    for id in 1..=PAIRS as u64 {
+        let entry = Entry {
+            id,
+            kind: 1 + id % 4,
+            category: 1 + id % 9,
+            isd: 0,
+            side: 1 + id % 2,
+            amount: 1_000_000 + id,
+        };
+        assert_eq!(book.enter(entry), 0);
+    }
+    book
+}
+
+fn rust_closes(times: u64) -> u64 {
+    let start = full();
+    let mut last = 0;
+    for _ in 0..times {
+        let mut book = Book { ..start };
+        for _ in 0..64 {
+            black_box(&mut book).close();
+        }
+        last = book.securities_on(63);
+    }
+    last
+}
+
+fn rust_holds(times: u64) -> u64 {
+    let mut book = full();
+    (0..times).filter(|n| black_box(&mut book).hold(1024, 1, n % 2) == 0).count() as u64
+}
+
+fn rust_settles(times: u64) -> u64 {
+    let mut book = full();
+    (0..times).filter(|_| black_box(&mut book).settle(1024, 1) == 0).count() as u64
+}
+
+// Microseconds for each call: the best of nine runs, without the time that the book takes to fill.
+fn timed(calls_each: u64, times: u64, run: fn(u64) -> u64) -> f64 {
+    let best = |times: u64| {
+        (0..9)
+            .map(|_| {
+                let start = Instant::now();
+                black_box(run(black_box(times)));
+                start.elapsed().as_secs_f64()
+            })
+            .fold(f64::INFINITY, f64::min)
+    };
+    (best(times) - best(0)) * 1e6 / (times * calls_each) as f64
+}
+
+// Kilobytes of stack that a call uses: the stack below is painted, and what the call left of the paint is counted.
+fn stack_of(run: fn(u64) -> u64) -> usize {
+    const PAINTED: usize = 8 << 20;
+    const PAINT: u8 = 0xA5;
+    std::thread::Builder::new()
+        .stack_size(2 * PAINTED)
+        .spawn(move || {
+            let top = std::ptr::addr_of!(run) as usize - 512;
+            let low = top - PAINTED;
+            for at in low..top {
+                unsafe { std::ptr::write_volatile(at as *mut u8, PAINT) };
+            }
+            black_box(run(black_box(1)));
+            let clean = (low..top).take_while(|&at| unsafe { std::ptr::read_volatile(at as *const u8) } == PAINT).count();
+            (PAINTED - clean) / 1024
+        })
+        .expect("a thread")
+        .join()
+        .expect("a call")
+}
+
+fn main() {
+    let (proved_closes, proved_holds, proved_settles): (fn(u64) -> u64, fn(u64) -> u64, fn(u64) -> u64) =
+        (|n| unsafe { closes(n) }, |n| unsafe { holds(n) }, |n| unsafe { settles(n) });
+    println!("{:<34}{:>9}{:>9}{:>9}{:>12}", "", "proved", "Rust", "ratio", "stack");
+    for (name, calls_each, times, proved, rust) in [
+        ("close of 1,024 failing pairs", 64, 50, proved_closes, rust_closes as fn(u64) -> u64),
+        ("hold of the last of 1,024 pairs", 1, 3000, proved_holds, rust_holds),
+        ("settle of the last of 1,024 pairs", 1, 3000, proved_settles, rust_settles),
+    ] {
+        assert_eq!(proved(times), rust(times), "{name}: the two books give the same");
+        let a = timed(calls_each, times, proved);
+        let b = timed(calls_each, times, rust);
+        println!("{name:<34}{a:>6.2} µs{b:>6.2} µs{:>9.2}{:>9} KB", a / b, stack_of(proved));
+    }
+}

@@ -1,0 +1,12 @@
+-- What the proofs of the functions share, to be read from top to bottom.
+
+-- what a branch says of a test, and what a call hands back, part by part
+pub mod Tested
+pub mod Handed
+-- a search for a pair, and what an answer finds there
+pub mod Search
+pub mod Opened
+-- hold, lack, settle and cancel; enter; close
+pub mod Found
+pub mod Free
+pub mod Closed

@@ -1,0 +1,69 @@
+-- `Book::close` meets its contract: at each turn of the loop, what the places left post to the cells now is what all places
+-- post to the cells at the start. Assumes nothing.
+use Prim.Native.Nat.{_-_, _≤_}
+use native.Mathlib.Omega.{arith}
+use mathlib.Core.Path.{_≡_, refl, _∙_}
+use borrow.Author.Needs.{needs}
+use Rattle.book.specs.Limits.{openLimit}
+use Rattle.book.proofs.Functions.Closed.{failsPosted, placesFrom, fails-on, places-bound, close-applied}
+use Rattle.book.proofs.book.Book.close.Statement.{statement}
+use Rattle.book.proofs.book.Book.close.Tie as tie
+
+-- the places left post to the cells now what all places post to those at the start; the rest of the book is the same
+abbrev Inv-loop : tie.InvT-loop
+Inv-loop self₀ today closing places answer i₀ self i =
+    (places ≤ openLimit)
+    × (self .pairs ≡ self₀ .pairs)
+    × (self .«last_id» ≡ self₀ .«last_id»)
+    × (failsPosted today (placesFrom places i (self₀ .pairs)) (self .cells)
+    ≡ failsPosted today (placesFrom places 0 (self₀ .pairs)) (self₀ .cells))
+
+-- how many places are left
+abbrev μ-loop : tie.MeasureT-loop
+μ-loop self₀ today closing places answer i₀ self i = places - i
+
+-- at the start, all places are left
+loop-holds : tie.Need-loop-holds Inv-loop μ-loop
+loop-holds c = (places-bound _ _ (c .close-of .ensures), refl, refl, refl)
+
+-- after a turn: the cell of the place's pair is closed
+loop-again : tie.Need-loop-again Inv-loop μ-loop
+loop-again c =
+    let placed = c .before .before in
+    let now = placed .before .before .before .before .loop in (
+      now .inv .0,
+      now .inv .1,
+      now .inv .2,
+      fails-on _ _ (now .i) _ (now .self .pairs) (now .self .cells) _ _ _ (omega arith) (now .inv .1)
+          (placed .before .wide .ensures) (placed .place .ensures .value) (c .close .ensures)
+          ∙ now .inv .3,
+    )
+
+-- at the end, no place is left
+returns : tie.Need-returns Inv-loop μ-loop
+returns c =
+    let now = c .before .loop in
+    close-applied _ (now .self) _ (now .i) (c .before .before .close-of .ensures) (omega arith)
+    (now .inv .1) (now .inv .2) (now .inv .3)
+
+pub close-spec : {M : Type 1} → statement M
+close-spec =
+    tie.close
+    (tie.spec
+    Inv-loop
+    μ-loop
+    (λ c κs. search needs)
+    loop-holds
+    (λ c. omega arith)
+    (λ c. omega arith)
+    (λ c κs. search needs)
+    (λ c κs. search needs)
+    (λ c. omega arith)
+    (λ c. search needs)
+    (λ c κs. search needs)
+    (λ c. omega arith)
+    (λ c. search needs)
+    (λ c. omega arith)
+    (λ c. omega arith)
+    loop-again
+    returns)

@@ -1,0 +1,25 @@
+// The limits of document 01, each said once.
+
+// Business days, 0 to 63. No call is accepted once all are closed.
+pub const DAYS: u64 = 64;
+
+// Categories of a day, 1 to 9.
+pub const CATEGORIES: u64 = 9;
+
+// Cells, one for each day and category.
+pub const CELLS: usize = (DAYS * CATEGORIES) as usize;
+
+// Pairs open at one time.
+pub const PAIRS: usize = 1024;
+
+// The last of their places.
+pub const LAST_PLACE: usize = PAIRS - 1;
+
+// Ids are 1 to this.
+pub const LARGEST_ID: u64 = 65535;
+
+// In euro cents, of one SI.
+pub const LARGEST_AMOUNT: u64 = 10000000000;
+
+// The largest number of 64 bits, where a sum stops.
+pub const LARGEST: u64 = 18446744073709551615;

@@ -1,0 +1,67 @@
+// What the examples write: a line for each call with the number that comes back, and a line for each row.
+use book::book::Book;
+use book::calls::Call;
+use book::rows::Row;
+use book::rows::RowAnswer;
+
+// Bytes on standard output.
+pub fn say(text: &[u8]) {
+    let _written = io::write_all(1, text);
+}
+
+// A number in decimal.
+pub fn say_number(n: u64) {
+    let _written = io::print_decimal(1, n);
+}
+
+// A call, named, and the number that comes back, 0 where it is accepted.
+pub fn make(book: Book, name: &[u8], call: Call) -> Book {
+    let outcome = book.apply(call);
+    let answer = outcome.answer;
+    say(name);
+    say(b": ");
+    say_number(answer.number());
+    say(b"\n");
+    outcome.book
+}
+
+// The row of a day and a category as a line of the table, or the number that comes back.
+pub fn say_row(book: Book, day: u64, category: u64) {
+    say(b"row of category ");
+    say_number(category);
+    say(b": ");
+    say_number(day);
+    let answer = book.row(day, category);
+    match answer {
+        RowAnswer::Figures(row) => say_figures(row),
+        RowAnswer::Refused(refusal) => {
+            say(b" is refused by ");
+            say_number(refusal.number());
+        }
+    }
+    say(b"\n");
+}
+
+// The names of a row's columns.
+pub fn say_columns() {
+    say(b"A row is day,total_n,settled_n,sec_n,cash_n,total_v,settled_v,sec_v,cash_v,isd_v\n\n");
+}
+
+// Each column after the day.
+fn say_figures(row: Row) {
+    say_column(row.total.number);
+    say_column(row.settled.number);
+    say_column(row.securities.number);
+    say_column(row.cash.number);
+    say_column(row.total.value);
+    say_column(row.settled.value);
+    say_column(row.securities.value);
+    say_column(row.cash.value);
+    say_column(row.isd_value);
+}
+
+// A column after another.
+fn say_column(n: u64) {
+    say(b",");
+    say_number(n);
+}
