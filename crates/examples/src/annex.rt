@@ -56,98 +56,59 @@ fn five_pairs(book: Book, day: u8, kind: u64, amount: u64) -> Book {
     next
 }
 
+// A kind's instructions, as document 002 names them.
+fn say_kind(kind: u64) {
+    match kind {
+        1 => say(b"DVP/RVP"),
+        2 => say(b"DWP/RWP"),
+        3 => say(b"DFP/RFP"),
+        _ => say(b"DPFOD/CPFOD"),
+    }
+}
+
+// Why the fifth pair fails, in words.
+fn say_reason(reason: Reason) {
+    match reason {
+        Reason::LacksSecurities => say(b"securities lack"),
+        Reason::LacksCash => say(b"cash lacks"),
+        Reason::DelivererHolds => say(b"deliverer on hold"),
+        Reason::ReceiverHolds => say(b"receiver on hold"),
+        Reason::BothHold => say(b"both on hold"),
+    }
+}
+
+// The value of an SI in Annex II: the market value of its securities where it is free of payment.
+fn amount_of(kind: u64) -> u64 {
+    if kind == 3 { 11000 } else { 10000 }
+}
+
 // One example: its row, and then the failing pair is cancelled, so that the next day starts anew.
-fn example(book: Book, name: &[u8], day: u8, kind: u64, amount: u64, reason: Reason) -> Book {
+fn example(book: Book, name: &[u8], day: u8, kind: u64, reason: Reason) -> Book {
     let last = 5 * (day as u64) + 5;
-    let due = with_reason(five_pairs(book, day, kind, amount), last, reason);
-    let closed = after(due, Call::Close);
+    let pairs = five_pairs(book, day, kind, amount_of(kind));
+    let closed = after(with_reason(pairs, last, reason), Call::Close);
     say(name);
+    say(b", ");
+    say_kind(kind);
+    say(b", ");
+    say_reason(reason);
     say(b": ");
     say_row(closed, day as u64, 1);
     after(closed, Call::Cancel(last))
 }
 
+// One example for each day.
 pub fn examples() {
     say(b"\nDocument 002, Annex II\n");
     let book = Book::fresh();
-    let book = example(
-        book,
-        b"1a, DVP/RVP, securities lack",
-        0,
-        1,
-        10000,
-        Reason::LacksSecurities,
-    );
-    let book = example(
-        book,
-        b"1b, DVP/RVP, cash lacks",
-        1,
-        1,
-        10000,
-        Reason::LacksCash,
-    );
-    let book = example(
-        book,
-        b"1c, DVP/RVP, both on hold",
-        2,
-        1,
-        10000,
-        Reason::BothHold,
-    );
-    let book = example(
-        book,
-        b"2a, DWP/RWP, securities lack",
-        3,
-        2,
-        10000,
-        Reason::LacksSecurities,
-    );
-    let book = example(
-        book,
-        b"2b, DWP/RWP, cash lacks",
-        4,
-        2,
-        10000,
-        Reason::LacksCash,
-    );
-    let book = example(
-        book,
-        b"2c, DWP/RWP, receiver on hold",
-        5,
-        2,
-        10000,
-        Reason::ReceiverHolds,
-    );
-    let book = example(
-        book,
-        b"3a, DPFOD/CPFOD, cash lacks",
-        6,
-        4,
-        10000,
-        Reason::LacksCash,
-    );
-    let book = example(
-        book,
-        b"3b, DPFOD/CPFOD, deliverer on hold",
-        7,
-        4,
-        10000,
-        Reason::DelivererHolds,
-    );
-    let book = example(
-        book,
-        b"4a, DFP/RFP, securities lack",
-        8,
-        3,
-        11000,
-        Reason::LacksSecurities,
-    );
-    let _book = example(
-        book,
-        b"4b, DFP/RFP, both on hold",
-        9,
-        3,
-        11000,
-        Reason::BothHold,
-    );
+    let book = example(book, b"1a", 0, 1, Reason::LacksSecurities);
+    let book = example(book, b"1b", 1, 1, Reason::LacksCash);
+    let book = example(book, b"1c", 2, 1, Reason::BothHold);
+    let book = example(book, b"2a", 3, 2, Reason::LacksSecurities);
+    let book = example(book, b"2b", 4, 2, Reason::LacksCash);
+    let book = example(book, b"2c", 5, 2, Reason::ReceiverHolds);
+    let book = example(book, b"3a", 6, 4, Reason::LacksCash);
+    let book = example(book, b"3b", 7, 4, Reason::DelivererHolds);
+    let book = example(book, b"4a", 8, 3, Reason::LacksSecurities);
+    let _book = example(book, b"4b", 9, 3, Reason::BothHold);
 }
