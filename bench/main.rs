@@ -1,7 +1,9 @@
-// Times the proved calls against the same book in plain Rust, in one run, and measures the stack that they need.
+// Times the proved calls and the proved reader against plain Rust, in one run, and measures the stack that they need.
 mod book;
+mod lines;
 
 use book::{Book, Entry, PAIRS};
+use lines::{next_line, read_line, Line};
 use std::hint::black_box;
 use std::time::Instant;
 
@@ -9,6 +11,7 @@ extern "C" {
     fn closes(times: u64) -> u64;
     fn holds(times: u64) -> u64;
     fn settles(times: u64) -> u64;
+    fn reads(times: u64) -> u64;
 }
 
 // The book that crates/timing starts from: 1,024 open pairs over nine categories and four kinds, all due on day 0.
@@ -51,6 +54,25 @@ fn rust_settles(times: u64) -> u64 {
     (0..times).filter(|_| black_box(&mut book).settle(1024, 1) == 0).count() as u64
 }
 
+// The file that crates/timing reads: lines of an enter, 65,536 bytes, the last line cut off.
+fn rust_reads(times: u64) -> u64 {
+    let mut text: Vec<u8> = b"1,12345,1,5,20,1,1234567890\n".iter().copied().cycle().take(65536).collect();
+    let mut sum = 0u64;
+    for n in 0..times {
+        text[0] = b'1' + (n % 6) as u8;
+        sum = 0;
+        let mut rest = black_box(&text[..]);
+        while !rest.is_empty() {
+            sum = sum.wrapping_add(match read_line(rest) {
+                Line::Correct(values) => values[1..].iter().sum(),
+                Line::Wrong(place) => place as u64,
+            });
+            rest = next_line(rest);
+        }
+    }
+    sum
+}
+
 // Microseconds for each call: the best of nine runs, without the time that the book takes to fill.
 fn timed(calls_each: u64, times: u64, run: fn(u64) -> u64) -> f64 {
     let best = |times: u64| {
@@ -87,17 +109,20 @@ fn stack_of(run: fn(u64) -> u64) -> usize {
 }
 
 fn main() {
-    let (proved_closes, proved_holds, proved_settles): (fn(u64) -> u64, fn(u64) -> u64, fn(u64) -> u64) =
-        (|n| unsafe { closes(n) }, |n| unsafe { holds(n) }, |n| unsafe { settles(n) });
-    println!("{:<34}{:>9}{:>9}{:>9}{:>12}", "", "proved", "Rust", "ratio", "stack");
+    let proved_closes: fn(u64) -> u64 = |n| unsafe { closes(n) };
+    let proved_holds: fn(u64) -> u64 = |n| unsafe { holds(n) };
+    let proved_settles: fn(u64) -> u64 = |n| unsafe { settles(n) };
+    let proved_reads: fn(u64) -> u64 = |n| unsafe { reads(n) };
+    println!("{:<34}{:>10}{:>11}{:>9}{:>11}", "", "proved", "Rust", "ratio", "stack");
     for (name, calls_each, times, proved, rust) in [
         ("close of 1,024 failing pairs", 64, 50, proved_closes, rust_closes as fn(u64) -> u64),
         ("hold of the last of 1,024 pairs", 1, 3000, proved_holds, rust_holds),
         ("settle of the last of 1,024 pairs", 1, 3000, proved_settles, rust_settles),
+        ("65,536 bytes of call lines read", 1, 100, proved_reads, rust_reads),
     ] {
-        assert_eq!(proved(times), rust(times), "{name}: the two books give the same");
+        assert_eq!(proved(times), rust(times), "{name}: both give the same");
         let a = timed(calls_each, times, proved);
         let b = timed(calls_each, times, rust);
-        println!("{name:<34}{a:>6.2} µs{b:>6.2} µs{:>9.2}{:>9} KB", a / b, stack_of(proved));
+        println!("{name:<34}{a:>7.2} µs{b:>8.2} µs{:>9.2}{:>8} KB", a / b, stack_of(proved));
     }
 }

@@ -5,6 +5,8 @@ use book::calls::Answer;
 use book::pairs::Entry;
 use book::rows::RowAnswer;
 
+mod reads; // lines to be read
+
 // 1,024 open pairs over the nine categories and the four kinds, all due on day 0.
 fn full() -> Book {
     let mut book = Book::fresh();

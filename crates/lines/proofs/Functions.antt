@@ -1,0 +1,6 @@
+-- What the proofs of the functions share.
+
+-- the loops of `read_line` and `next_line`
+pub mod Reading
+-- the walks over `Lines`, by hand
+pub mod Walks

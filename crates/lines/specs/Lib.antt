@@ -1,0 +1,9 @@
+pub mod Bytes
+pub mod Decimal
+pub mod Fields
+pub mod Grammar
+pub mod Reading
+pub mod Names
+pub mod Texts
+pub mod Writing
+pub mod Worked

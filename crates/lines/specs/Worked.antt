@@ -1,0 +1,168 @@
+-- Lines worked by hand: each kind of wrong byte, correct lines, and document 01's file. Assumes nothing.
+use Prim.Native.Nat.{ℕ}
+use Prim.Native.String.{String}
+use mathlib.Core.Path.{_≡_}
+use mathlib.Core.List.{List, [], _∷_, _++_, map}
+use mathlib.Core.Bool.{Bool, true, false}
+use Rattle.book.specs.Edges.{example}
+use Rattle.lines.specs.Bytes.{bytes}
+use Rattle.lines.specs.Reading.{Reading, fields, wrongAt, noLine, lineOf}
+use Rattle.lines.specs.Names.{hasNames}
+use Rattle.lines.specs.Texts.{linesOf, fileOf}
+
+-- a text, and what its first line is read as
+pub record Case : Type 0 where
+  pub text : String
+  pub reading : Reading
+
+abbrev pub case : String → Reading → Case
+case text reading = record { text = text; reading = reading }
+
+-- each is read so
+abbrev pub AreRead : List Case → Type 0
+AreRead cs = map (λ (c : Case). lineOf (bytes (c .text))) cs ≡ map (λ (c : Case). c .reading) cs
+
+-- correct lines
+abbrev pub correctLines : List Case
+correctLines =
+    case "1,1,1,1,0,1,10000\n" (fields (1 ∷ 1 ∷ 1 ∷ 1 ∷ 0 ∷ 1 ∷ 10000 ∷ []))
+    ∷ case "2,65535,0,0,0,2,1\n" (fields (2 ∷ 65535 ∷ 0 ∷ 0 ∷ 0 ∷ 2 ∷ 1 ∷ []))
+    ∷ case "3,5,0,0,0,2,0\n" (fields (3 ∷ 5 ∷ 0 ∷ 0 ∷ 0 ∷ 2 ∷ 0 ∷ []))
+    ∷ case "4,1,0,0,0,0,5000\n" (fields (4 ∷ 1 ∷ 0 ∷ 0 ∷ 0 ∷ 0 ∷ 5000 ∷ []))
+    ∷ case "5,7,0,0,0,0,0\n" (fields (5 ∷ 7 ∷ 0 ∷ 0 ∷ 0 ∷ 0 ∷ 0 ∷ []))
+    ∷ case "6,0,0,0,0,0,0\n" (fields (6 ∷ 0 ∷ 0 ∷ 0 ∷ 0 ∷ 0 ∷ 0 ∷ []))
+    -- what stands behind the line's LF isn't looked at
+    ∷ case "6,0,0,0,0,0,0\nand more" (fields (6 ∷ 0 ∷ 0 ∷ 0 ∷ 0 ∷ 0 ∷ 0 ∷ []))
+    -- a value out of its range is left to the call's own refusal, up to 11 digits
+    ∷ case "1,0,0,0,0,0,0\n" (fields (1 ∷ 0 ∷ 0 ∷ 0 ∷ 0 ∷ 0 ∷ 0 ∷ []))
+    ∷ case "4,1,0,0,0,0,0\n" (fields (4 ∷ 1 ∷ 0 ∷ 0 ∷ 0 ∷ 0 ∷ 0 ∷ []))
+    ∷ case "3,1,0,0,0,9,0\n" (fields (3 ∷ 1 ∷ 0 ∷ 0 ∷ 0 ∷ 9 ∷ 0 ∷ []))
+    ∷ case "2,99999999999,0,0,0,12345678901,3\n" (fields (2 ∷ 99999999999 ∷ 0 ∷ 0 ∷ 0 ∷ 12345678901 ∷ 3 ∷ []))
+    ∷ []
+
+-- wrong lines, each with the place of its first wrong byte
+abbrev pub wrongLines : List Case
+wrongLines =
+    -- the text ends inside a line that could still become correct: the place after the last byte
+    case "6,0,0,0,0,0,0" (wrongAt 13)
+    ∷ case "4,1" (wrongAt 3)
+    ∷ case "1," (wrongAt 2)
+    -- and where an earlier byte is wrong, that byte's
+    ∷ case "6,0,x" (wrongAt 4)
+    -- an empty line
+    ∷ case "\n" (wrongAt 0)
+    ∷ case "\n6,0,0,0,0,0,0\n" (wrongAt 0)
+    -- a leading zero: the digit behind it
+    ∷ case "1,01,1,1,0,1,10000\n" (wrongAt 3)
+    ∷ case "4,1,0,0,0,0,00\n" (wrongAt 13)
+    -- a call field outside 1 to 6
+    ∷ case "0,0,0,0,0,0,0\n" (wrongAt 0)
+    ∷ case "01,1,1,1,0,1,10000\n" (wrongAt 0)
+    ∷ case "7,0,0,0,0,0,0\n" (wrongAt 0)
+    ∷ case "8,0,0,0,0,0,0\n" (wrongAt 0)
+    ∷ case "9,0,0,0,0,0,0\n" (wrongAt 0)
+    ∷ case "10,0,0,0,0,0,0\n" (wrongAt 1)
+    ∷ case "66,0,0,0,0,0,0\n" (wrongAt 1)
+    ∷ case ",1,0,0,0,0,0\n" (wrongAt 0)
+    -- a field that the call doesn't use: its first digit, or the second 0
+    ∷ case "4,1,1,0,0,0,5000\n" (wrongAt 4)
+    ∷ case "4,1,00,0,0,0,5000\n" (wrongAt 5)
+    ∷ case "3,5,0,0,0,2,1\n" (wrongAt 12)
+    ∷ case "5,7,0,0,0,0,1\n" (wrongAt 12)
+    ∷ case "6,1,0,0,0,0,0\n" (wrongAt 2)
+    -- the twelfth digit
+    ∷ case "1,123456789012,1,1,0,1,1\n" (wrongAt 13)
+    -- too few fields: the LF; too many: the seventh comma
+    ∷ case "6,0,0,0,0,0\n" (wrongAt 11)
+    ∷ case "6,0,0,0,0,0,0,0\n" (wrongAt 13)
+    -- an empty field
+    ∷ case "4,,0,0,0,0,5000\n" (wrongAt 2)
+    ∷ case "4,1,0,0,0,0,\n" (wrongAt 12)
+    -- CR before LF, a blank, a sign, NUL, a byte over 127
+    ∷ case "6,0,0,0,0,0,0\r\n" (wrongAt 13)
+    ∷ case "6, 0,0,0,0,0,0\n" (wrongAt 2)
+    ∷ case " 6,0,0,0,0,0,0\n" (wrongAt 0)
+    ∷ case "4,+1,0,0,0,0,5000\n" (wrongAt 2)
+    ∷ case "4,-1,0,0,0,0,5000\n" (wrongAt 2)
+    ∷ case "4,1\0,0,0,0,0,5000\n" (wrongAt 3)
+    ∷ case "4,1é,0,0,0,0,5000\n" (wrongAt 3)
+    -- a second names line
+    ∷ case "call,id,kind,category,day,side,amount\n" (wrongAt 0)
+    ∷ []
+
+-- no byte left
+abbrev pub noLines : List Case
+noLines = case "" noLine ∷ []
+
+-- texts of several lines, one after the other
+abbrev pub textOf : List String → List ℕ
+textOf [] = []
+textOf (l ∷ ls) = bytes l ++ textOf ls
+
+-- reading goes on after the wrong line's LF, and after the last LF there is no line
+abbrev pub LinesHold : Type 0
+LinesHold =
+    linesOf (textOf ("6,0,0,0,0,0,0\n" ∷ "6;0\n" ∷ "\n" ∷ "5,7,0,0,0,0,0\n" ∷ []))
+    ≡ fields (6 ∷ 0 ∷ 0 ∷ 0 ∷ 0 ∷ 0 ∷ 0 ∷ []) ∷ wrongAt 1 ∷ wrongAt 0 ∷ fields (5 ∷ 7 ∷ 0 ∷ 0 ∷ 0 ∷ 0 ∷ 0 ∷ []) ∷ []
+
+-- a last line without LF is a line too
+abbrev pub LastHolds : Type 0
+LastHolds =
+    linesOf (textOf ("6,0,0,0,0,0,0\n" ∷ "6,0" ∷ [])) ≡ fields (6 ∷ 0 ∷ 0 ∷ 0 ∷ 0 ∷ 0 ∷ 0 ∷ []) ∷ wrongAt 3 ∷ []
+
+-- document 01's file, written from the calls of its example
+abbrev pub ExampleHolds : Type 0
+ExampleHolds =
+    fileOf example
+    ≡ textOf
+    ("call,id,kind,category,day,side,amount\n"
+    ∷ "1,1,1,1,0,1,10000\n"
+    ∷ "4,1,0,0,0,0,5000\n"
+    ∷ "6,0,0,0,0,0,0\n"
+    ∷ "4,1,0,0,0,0,2000\n"
+    ∷ "6,0,0,0,0,0,0\n"
+    ∷ "6,0,0,0,0,0,0\n"
+    ∷ "4,1,0,0,0,0,3000\n"
+    ∷ "1,2,1,1,1,2,4000\n"
+    ∷ "4,2,0,0,0,0,4000\n"
+    ∷ "6,0,0,0,0,0,0\n"
+    ∷ [])
+
+-- ---- the names line
+
+-- a text, and whether it starts with the names line
+pub record NamesCase : Type 0 where
+  pub text : String
+  pub named : Bool
+
+abbrev pub names : String → Bool → NamesCase
+names text named = record { text = text; named = named }
+
+abbrev pub AreNamed : List NamesCase → Type 0
+AreNamed cs = map (λ (c : NamesCase). hasNames (bytes (c .text))) cs ≡ map (λ (c : NamesCase). c .named) cs
+
+abbrev pub namesLines : List NamesCase
+namesLines =
+    names "call,id,kind,category,day,side,amount\n" true
+    ∷ names "call,id,kind,category,day,side,amount\n6,0" true
+    -- no byte, no LF, CR before LF
+    ∷ names "" false
+    ∷ names "call,id,kind,category,day,side,amount" false
+    ∷ names "call,id,kind,category,day,side,amount\r\n" false
+    -- a blank in front or behind, a byte order mark, capitals, a column more
+    ∷ names " call,id,kind,category,day,side,amount\n" false
+    ∷ names "call,id,kind,category,day,side,amount \n" false
+    ∷ names "ï»¿call,id,kind,category,day,side,amount\n" false
+    ∷ names "Call,id,kind,category,day,side,amount\n" false
+    ∷ names "call,id,kind,category,day,side,amount,deliverer\n" false
+    ∷ []
+
+-- every line, text and names line above is read as it says
+pub record WorkedHold : Type 0 where
+  pub correct : AreRead correctLines
+  pub wrong : AreRead wrongLines
+  pub none : AreRead noLines
+  pub lines : LinesHold
+  pub last : LastHolds
+  pub file : ExampleHolds
+  pub named : AreNamed namesLines

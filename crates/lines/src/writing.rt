@@ -1,0 +1,26 @@
+// Numbers as decimal text into a lent buffer, as far as it goes.
+ghost use mathlib.Core.List.{[], _∷_};
+ghost use Rattle.lines.specs.Decimal.{decimal};
+ghost use Rattle.lines.specs.Writing.{Put};
+
+// Puts a byte at a place, and answers the place behind it.
+pub fn put_byte(buffer: &mut [u8], at: usize, byte: u8) -> usize
+    ensures { λ r. ⌜ Put (now (buffer .entry)) at (byte ∷ []) r (now (buffer .exit)) ⌝ }
+{
+    if buffer.len() <= at {
+        return buffer.len();
+    }
+    buffer[at] = byte;
+    at + 1
+}
+
+// Puts a number in decimal at a place, and answers the place behind it.
+pub fn put_number(buffer: &mut [u8], at: usize, number: u64) -> usize
+    ensures { λ r. ⌜ Put (now (buffer .entry)) at (decimal number) r (now (buffer .exit)) ⌝ }
+{
+    if number < 10 {
+        return put_byte(buffer, at, b'0' + number as u8);
+    }
+    let end = put_number(buffer, at, number / 10);
+    put_byte(buffer, end, b'0' + (number % 10) as u8)
+}
