@@ -73,7 +73,7 @@ fn rust_reads(times: u64) -> u64 {
     sum
 }
 
-// Microseconds for each call: the best of nine runs, without the time that the book takes to fill.
+// Microseconds for each call: the best of nine runs, without the time that it takes to set up.
 fn timed(calls_each: u64, times: u64, run: fn(u64) -> u64) -> f64 {
     let best = |times: u64| {
         (0..9)

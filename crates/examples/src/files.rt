@@ -3,6 +3,7 @@ use crate::text::say;
 use crate::text::say_number;
 use crate::text::say_row;
 use book::book::Book;
+use lines::lines::first_call_line;
 use lines::names::has_names;
 use lines::reading::Line;
 use lines::reading::next_line;
@@ -48,9 +49,17 @@ pub fn wrong_lines() {
           6,0,0,0,0,0,0\n\
           6,0,0,0,0,0,0",
     );
+    // The last line has no LF.
     say(b"\n");
     say_row(book, 0, 0);
     let _none = make_all(b"call,id,kind,category,day,side\n6,0,0,0,0,0,0\n");
+    first_line(b"call,id,kind,category,day,side,amount\n6,0,0\n");
+}
+
+// What the reader of lines says of the first call line, made on a fresh book.
+fn first_line(text: &[u8]) {
+    let _book = make_line(Book::fresh(), first_call_line(text));
+    say(b"the first call line of a file, by the reader of lines\n");
 }
 
 // The calls of a file on a fresh book, and what is said of each line; none where the names line is wrong.
@@ -87,6 +96,6 @@ fn make_line(book: Book, line: Line) -> Book {
             say(b": ");
             book
         }
-        Line::Absent => book,
+        Line::NoLine => book,
     }
 }

@@ -7,7 +7,7 @@ pub mod Table
 pub mod Steps
 pub mod Scanned
 pub mod Grammar
--- the names line, a text as its lines, where a line ends, a file of calls there and back
+-- the names line, a text as its lines, where a line ends, a file of calls written and read back
 pub mod Names
 pub mod Texts
 pub mod Ends

@@ -1,5 +1,5 @@
--- The fields of a call's line. Document 01, 'The calls as text'. Another column or another call is a change of this page
--- and of src/fields.rt. Assumes nothing.
+-- The fields of a call's line. Document 01, 'The calls as text'. Another column or another call changes this page,
+-- src/fields.rt and the names line. Assumes nothing.
 use Prim.Native.Nat.{ℕ, suc}
 use mathlib.Core.List.{List, [], _∷_}
 use mathlib.Core.Bool.{cond}
@@ -12,6 +12,7 @@ pub use Rattle.book.specs.declared.pairs.Entry.{Entry}
 abbrev pub lastColumn : ℕ
 lastColumn = 6
 
+-- how many there are
 abbrev pub columnCount : ℕ
 columnCount = suc lastColumn
 
@@ -32,14 +33,14 @@ abbrev pub largestField : ℕ
 largestField = 99999999999
 
 -- the highest call number
-abbrev pub callCount : ℕ
-callCount = 6
+abbrev pub highestCall : ℕ
+highestCall = 6
 
 -- the highest value of each field, by call: 0 where the call doesn't use it. Where no call was read yet, the last row gives
 -- that of the first field.
 abbrev pub highestOf : ℕ → List ℕ
 highestOf call =
-    let c = callCount in
+    let c = highestCall in
     let n = largestField in
     cond (eqb call 1) (c ∷ n ∷ n ∷ n ∷ n ∷ n ∷ n ∷ [])
     (cond (eqb call 2) (c ∷ n ∷ 0 ∷ 0 ∷ 0 ∷ n ∷ n ∷ [])

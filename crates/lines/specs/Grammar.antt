@@ -48,5 +48,5 @@ pub record FirstWrong (s : List ℕ) (place : ℕ) : Type 0 where
   pub before : (earlier : ℕ) → earlier < place → Begins (take (suc earlier) s)
   -- and up to and including this one, where there is one, they begin none
   pub here : place < length s → Begins (take (suc place) s) → ⊥
-  -- no correct line stands whole before it
+  -- and the text starts with no correct line
   pub unread : (c : Call) → LineStands c s → ⊥

@@ -28,7 +28,7 @@ asRead c = fields (fieldsOf c)
 abbrev pub readBy : Line → Reading
 readBy (Line.Correct c) = asRead c
 readBy (Line.Wrong place) = wrongAt place
-readBy Line.Absent = noLine
+readBy Line.NoLine = noLine
 
 -- ---- the scan
 
@@ -46,7 +46,8 @@ digitFits column highest empty value b =
 unfoldable pub endFits : ℕ → Bool → ℕ → Bool
 endFits column empty b = not empty && eqb b (cond (eqb column lastColumn) lineFeed comma)
 
--- The bytes from left to right: n were right before them, f are the fields that have ended, and value was read of the next.
+-- The bytes from left to right: n were right before them, f are the fields that have ended, and value was read of the next,
+-- nothing where it is empty.
 unfoldable pub scan : List ℕ → ℕ → List ℕ → Bool → ℕ → Reading
 scan [] n f empty value = wrongAt n
 scan (b ∷ bs) n f empty value =
@@ -88,4 +89,4 @@ pub record ScanIsGrammar (s : List ℕ) : Type 0 where
 pub record IsRight (s : List ℕ) (r : Line) : Type 0 where
   pub call : (c : Call) → (r ≡ Line.Correct c) ↔ LineStands c s
   pub wrong : (place : ℕ) → (r ≡ Line.Wrong place) ↔ ((0 < length s) × FirstWrong s place)
-  pub none : (r ≡ Line.Absent) ↔ (s ≡ [])
+  pub none : (r ≡ Line.NoLine) ↔ (s ≡ [])

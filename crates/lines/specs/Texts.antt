@@ -1,6 +1,6 @@
 -- A text as its lines, and a file of calls. Document 01, 'The calls as text'. Assumes nothing.
 use Prim.Native.Nat.{ℕ, _+_, _≤_, _<_}
-use mathlib.Core.Logic.{_⊎_}
+use mathlib.Core.Logic.{_↔_}
 use mathlib.Core.Path.{_≡_}
 use mathlib.Core.List.{List, [], _∷_, _++_, map}
 use mathlib.Core.Bool.{true, cond}
@@ -9,7 +9,7 @@ use lib.Dec.{eqb}
 use Rattle.book.specs.Sums.{All}
 use Rattle.lines.specs.Bytes.{lineFeed}
 use Rattle.lines.specs.Fields.{Call}
-use Rattle.lines.specs.Grammar.{written, Writable}
+use Rattle.lines.specs.Grammar.{written, Writable, LineStands}
 use Rattle.lines.specs.Reading.{Reading, wrongAt, asRead, lineOf, lineAt, nextAt}
 use Rattle.lines.specs.Names.{namesLine, hasNames}
 
@@ -34,11 +34,10 @@ pub record LinesFrom (s : List ℕ) (at : ℕ) : Type 0 where
   pub within : at < length s → nextAt s at ≤ length s
   pub none : length s ≤ at → linesOf (drop at s) ≡ []
 
--- 'Reading goes on after the wrong line's LF': the first wrong byte stands in the line that is passed over, or is the place
--- after the text's last byte.
-abbrev pub WrongInLine : Type 0
-WrongInLine = (s : List ℕ) (at place : ℕ) → lineAt s at ≡ wrongAt place
-    → (at + place < nextAt s at) ⊎ (at + place ≡ length s)
+-- Where reading goes on: behind a correct line, and 'after the wrong line's LF', the first one from its wrong byte on.
+pub record GoesOn (s : List ℕ) (at : ℕ) : Type 0 where
+  pub correct : (c : Call) → LineStands c (drop at s) → nextAt s at ≡ at + length (written c)
+  pub wrong : (place : ℕ) → lineAt s at ≡ wrongAt place → nextAt s at ≡ nextAt s (at + place)
 
 -- ---- a file of calls, written and read back
 
@@ -51,13 +50,12 @@ writtenAll (c ∷ cs) = written c ++ writtenAll cs
 abbrev pub fileOf : List Call → List ℕ
 fileOf cs = namesLine ++ writtenAll cs
 
--- a text is a call file with no wrong line, and these are its calls
+-- a text is a call file with no wrong line, of whatever length, and these are its calls
 abbrev pub ReadsAs : List ℕ → List Call → Type 0
 ReadsAs s cs = (hasNames s ≡ true) × (linesOf (drop (length namesLine) s) ≡ map asRead cs)
 
--- A file that is written reads as the same calls, and a file that reads as calls is what would be written of them: so equal
--- calls mean equal bytes, and equal bytes equal calls.
-pub record RoundTrip : Type 0 where
-  pub back : (cs : List Call) → All Writable cs → ReadsAs (fileOf cs) cs
-  pub same-bytes : (cs : List Call) (s : List ℕ) → ReadsAs s cs → s ≡ fileOf cs
-  pub same-calls : (cs ds : List Call) (s : List ℕ) → ReadsAs s cs → ReadsAs s ds → cs ≡ ds
+-- A text reads as some calls exactly where it is the file that is written of them, none with a field of more than 11 digits.
+-- So a file that is written reads as the same calls, equal calls mean equal bytes, and equal bytes equal calls.
+pub record RoundTrip (s : List ℕ) (cs : List Call) : Type 0 where
+  pub same-bytes : ReadsAs s cs ↔ (All Writable cs × (s ≡ fileOf cs))
+  pub same-calls : (ds : List Call) → ReadsAs s cs → ReadsAs s ds → cs ≡ ds

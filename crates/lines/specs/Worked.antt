@@ -6,7 +6,7 @@ use mathlib.Core.List.{List, [], _∷_, _++_, map}
 use mathlib.Core.Bool.{Bool, true, false}
 use Rattle.book.specs.Edges.{example}
 use Rattle.lines.specs.Bytes.{bytes}
-use Rattle.lines.specs.Reading.{Reading, fields, wrongAt, noLine, lineOf}
+use Rattle.lines.specs.Reading.{Reading, fields, wrongAt, noLine, lineOf, lineAt, nextAt}
 use Rattle.lines.specs.Names.{hasNames}
 use Rattle.lines.specs.Texts.{linesOf, fileOf}
 
@@ -15,6 +15,7 @@ pub record Case : Type 0 where
   pub text : String
   pub reading : Reading
 
+-- one of them
 abbrev pub case : String → Reading → Case
 case text reading = record { text = text; reading = reading }
 
@@ -99,16 +100,31 @@ abbrev pub textOf : List String → List ℕ
 textOf [] = []
 textOf (l ∷ ls) = bytes l ++ textOf ls
 
--- reading goes on after the wrong line's LF, and after the last LF there is no line
+-- a close, as it is read
+abbrev close : Reading
+close = fields (6 ∷ 0 ∷ 0 ∷ 0 ∷ 0 ∷ 0 ∷ 0 ∷ [])
+
+-- Reading goes on after the wrong line's LF, which may be the wrong byte itself; a line with two wrong bytes is one wrong
+-- line; a second names line is one; and after the last LF there is no line.
 abbrev pub LinesHold : Type 0
 LinesHold =
-    linesOf (textOf ("6,0,0,0,0,0,0\n" ∷ "6;0\n" ∷ "\n" ∷ "5,7,0,0,0,0,0\n" ∷ []))
-    ≡ fields (6 ∷ 0 ∷ 0 ∷ 0 ∷ 0 ∷ 0 ∷ 0 ∷ []) ∷ wrongAt 1 ∷ wrongAt 0 ∷ fields (5 ∷ 7 ∷ 0 ∷ 0 ∷ 0 ∷ 0 ∷ 0 ∷ []) ∷ []
+    linesOf (textOf
+    ("6,0,0,0,0,0,0\n"
+    ∷ "6;0,x\r\n"
+    ∷ "\n"
+    ∷ "6,0,0,0,0,0\n"
+    ∷ "call,id,kind,category,day,side,amount\n"
+    ∷ "6,0,0,0,0,0,0\n"
+    ∷ []))
+    ≡ close ∷ wrongAt 1 ∷ wrongAt 0 ∷ wrongAt 11 ∷ wrongAt 0 ∷ close ∷ []
 
 -- a last line without LF is a line too
 abbrev pub LastHolds : Type 0
-LastHolds =
-    linesOf (textOf ("6,0,0,0,0,0,0\n" ∷ "6,0" ∷ [])) ≡ fields (6 ∷ 0 ∷ 0 ∷ 0 ∷ 0 ∷ 0 ∷ 0 ∷ []) ∷ wrongAt 3 ∷ []
+LastHolds = linesOf (textOf ("6,0,0,0,0,0,0\n" ∷ "6,0" ∷ [])) ≡ close ∷ wrongAt 3 ∷ []
+
+-- behind the text's end there is no line, and reading goes on nowhere
+abbrev pub EndHolds : Type 0
+EndHolds = (lineAt (bytes "6,0\n") 4 ≡ noLine) × (lineAt (bytes "6,0\n") 9 ≡ noLine) × (nextAt (bytes "6,0\n") 9 ≡ 9)
 
 -- document 01's file, written from the calls of its example
 abbrev pub ExampleHolds : Type 0
@@ -135,12 +151,15 @@ pub record NamesCase : Type 0 where
   pub text : String
   pub named : Bool
 
+-- one of them
 abbrev pub names : String → Bool → NamesCase
 names text named = record { text = text; named = named }
 
+-- each starts so, or doesn't
 abbrev pub AreNamed : List NamesCase → Type 0
 AreNamed cs = map (λ (c : NamesCase). hasNames (bytes (c .text))) cs ≡ map (λ (c : NamesCase). c .named) cs
 
+-- the names line, and what is none
 abbrev pub namesLines : List NamesCase
 namesLines =
     names "call,id,kind,category,day,side,amount\n" true
@@ -149,7 +168,7 @@ namesLines =
     ∷ names "" false
     ∷ names "call,id,kind,category,day,side,amount" false
     ∷ names "call,id,kind,category,day,side,amount\r\n" false
-    -- a blank in front or behind, a byte order mark, capitals, a column more
+    -- a blank in front or behind, a byte order mark (the bytes EF BB BF), capitals, a column more
     ∷ names " call,id,kind,category,day,side,amount\n" false
     ∷ names "call,id,kind,category,day,side,amount \n" false
     ∷ names "ï»¿call,id,kind,category,day,side,amount\n" false
@@ -164,5 +183,6 @@ pub record WorkedHold : Type 0 where
   pub none : AreRead noLines
   pub lines : LinesHold
   pub last : LastHolds
+  pub end : EndHolds
   pub file : ExampleHolds
   pub named : AreNamed namesLines

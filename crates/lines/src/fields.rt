@@ -10,21 +10,23 @@ pub const COLUMNS: usize = 7;
 // The last of them, from 0.
 pub const LAST_COLUMN: usize = 6;
 // The highest call number.
-pub const CALLS: u64 = 6;
+pub const HIGHEST_CALL: u64 = 6;
 // The largest number of 11 digits.
-const MOST: u64 = 99999999999;
+const LARGEST_FIELD: u64 = 99999999999;
 
 // The highest value of each field, by call: 0 where the call doesn't use it.
 fn highest_of(call: u64) -> [u64; COLUMNS]
     ensures { λ r. ⌜ r ≡ highestOf call ⌝ }
 {
+    let c = HIGHEST_CALL;
+    let n = LARGEST_FIELD;
     match call {
-        1 => [CALLS, MOST, MOST, MOST, MOST, MOST, MOST],
-        2 => [CALLS, MOST, 0, 0, 0, MOST, MOST],
-        3 => [CALLS, MOST, 0, 0, 0, MOST, 0],
-        4 => [CALLS, MOST, 0, 0, 0, 0, MOST],
-        5 => [CALLS, MOST, 0, 0, 0, 0, 0],
-        _ => [CALLS, 0, 0, 0, 0, 0, 0],
+        1 => [c, n, n, n, n, n, n],
+        2 => [c, n, 0, 0, 0, n, n],
+        3 => [c, n, 0, 0, 0, n, 0],
+        4 => [c, n, 0, 0, 0, 0, n],
+        5 => [c, n, 0, 0, 0, 0, 0],
+        _ => [c, 0, 0, 0, 0, 0, 0],
     }
 }
 

@@ -1,4 +1,4 @@
-// The reader of lines: the lent text and a position. Each function takes it apart and leaves the work to `reading`.
+// The reader of lines: the lent text and a position. What is done with it is left to `reading`, on slice and number.
 ghost use mathlib.Core.Path.{_≡_};
 ghost use Rattle.lines.specs.Reading.{readBy, lineAt, nextAt};
 use crate::reading::Line;
@@ -37,8 +37,8 @@ impl<'a> Lines<'a> {
     }
 }
 
-// The first call line of a file: the one after its names line.
-pub fn first_call(text: &[u8]) -> Line
+// The first call line of a file: the one after its first line. Whether that is the names line is left to `has_names`.
+pub fn first_call_line(text: &[u8]) -> Line
     ensures { λ r. ⌜ readBy r ≡ lineAt (now (text .entry)) (nextAt (now (text .entry)) 0) ⌝ }
 {
     Lines::new(text).next().read()

@@ -3,8 +3,8 @@ ghost use mathlib.Core.Path.{_≡_};
 ghost use Prim.Native.Nat.{_≤_};
 ghost use Rattle.lines.specs.Fields.{largestField};
 ghost use Rattle.lines.specs.Reading.{readBy, takesDigit, digitFits, endFits, lineAt, nextAt};
-use crate::fields::CALLS;
 use crate::fields::COLUMNS;
+use crate::fields::HIGHEST_CALL;
 use crate::fields::LAST_COLUMN;
 use crate::fields::call_of;
 use crate::fields::highest_in;
@@ -18,7 +18,7 @@ pub enum Line {
     // A wrong line: the place of its first wrong byte, from the line's start.
     Wrong(usize),
     // No byte is left: there is no line.
-    Absent,
+    NoLine,
 }
 
 // Whether another digit may follow in a field: no 0 leads.
@@ -31,7 +31,8 @@ fn takes_digit(empty: bool, value: u64) -> bool
     value != 0
 }
 
-// Whether the byte is a digit that may follow in a field of which `value` was read: nothing, where it is empty.
+// Whether the byte is a digit that may follow what was read of a field, nothing where it is empty: no 0 leads, and the
+// number stays in the field's range. Only the first field's lowest value isn't 0, so that is asked for and not kept.
 fn digit_fits(column: usize, highest: u64, empty: bool, value: u64, byte: u8) -> bool
     requires { ⌜ value ≤ largestField ⌝ }
     ensures { λ r. ⌜ r ≡ digitFits column highest empty value byte ⌝ }
@@ -70,13 +71,13 @@ pub fn read_line(text: &[u8], at: usize) -> Line
     ensures { λ r. ⌜ readBy r ≡ lineAt (now (text .entry)) at ⌝ }
 {
     if text.len() <= at {
-        return Line::Absent;
+        return Line::NoLine;
     }
     // The fields that have ended.
     let mut values = [0u64; COLUMNS];
     // The field that is read: its column, its highest value, and what was read of it, nothing where it is empty.
     let mut column: usize = 0;
-    let mut highest = CALLS;
+    let mut highest = HIGHEST_CALL;
     let mut empty = true;
     let mut value: u64 = 0;
     let mut i = at;

@@ -3,7 +3,8 @@ ghost use mathlib.Core.List.{[], _∷_};
 ghost use Rattle.lines.specs.Decimal.{decimal};
 ghost use Rattle.lines.specs.Writing.{Put};
 
-// Puts a byte at a place, and answers the place behind it.
+// Puts a byte at a place, and answers the place behind it; where there is no such place, nothing is put, and the answer is
+// the buffer's end.
 pub fn put_byte(buffer: &mut [u8], at: usize, byte: u8) -> usize
     ensures { λ r. ⌜ Put (now (buffer .entry)) at (byte ∷ []) r (now (buffer .exit)) ⌝ }
 {
@@ -14,7 +15,8 @@ pub fn put_byte(buffer: &mut [u8], at: usize, byte: u8) -> usize
     at + 1
 }
 
-// Puts a number in decimal at a place, and answers the place behind it.
+// Puts a number in decimal at a place, as many of its digits as fit, and answers the place behind them. The last digit
+// goes behind the others, which the same function puts.
 pub fn put_number(buffer: &mut [u8], at: usize, number: u64) -> usize
     ensures { λ r. ⌜ Put (now (buffer .entry)) at (decimal number) r (now (buffer .exit)) ⌝ }
 {

@@ -1,4 +1,4 @@
-// Calls to be timed from Rust: bench/run. Each function starts from a full book, so that what is timed is the calls.
+// Calls to be timed from Rust: bench/run. Each starts from a full book, so that what is timed is the calls.
 ghost use Prim.Native.Nat.{_≤_};
 use book::book::Book;
 use book::calls::Answer;

@@ -6,17 +6,17 @@ use lines::reading::read_line;
 use std::num::wrapping_add_u64;
 
 // As many bytes as a call file may have.
-const FILE: usize = 65536;
+const FILE_LENGTH: usize = 65536;
 // As many as the line below has.
-const LINE: usize = 28;
+const LINE_LENGTH: usize = 28;
 
 // Lines of an enter, as many as a file holds; the last is cut off.
-fn full_file() -> [u8; FILE] {
+fn full_file() -> [u8; FILE_LENGTH] {
     let line = b"1,12345,1,5,20,1,1234567890\n";
-    let mut text = [0u8; FILE];
+    let mut text = [0u8; FILE_LENGTH];
     let mut i: usize = 0;
-    while i < FILE {
-        let column = i % LINE;
+    while i < FILE_LENGTH {
+        let column = i % LINE_LENGTH;
         text[i] = line[column];
         i += 1;
     }
@@ -28,7 +28,7 @@ fn sum_of(line: Line) -> u64 {
     match line {
         Line::Correct(call) => sum_of_call(call),
         Line::Wrong(place) => place as u64,
-        Line::Absent => 0,
+        Line::NoLine => 0,
     }
 }
 
@@ -60,7 +60,8 @@ fn sum_of_lines(text: &[u8]) -> u64 {
     sum
 }
 
-// A full file read so many times, its first line another call each time: the sum at the last.
+// A full file read so many times, so that no compiler can read it once for all: another call number in its first line each
+// time, which mostly makes that line wrong. The sum at the last.
 #[no_mangle]
 pub extern "C" fn reads(times: u64) -> u64 {
     let mut text = full_file();

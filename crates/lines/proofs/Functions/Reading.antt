@@ -15,7 +15,7 @@ use Rattle.lines.specs.Fields.{
   columnCount,
   fieldsOf,
   largestField,
-  callCount,
+  highestCall,
   highestIn,
   callOf,
 }
@@ -32,8 +32,16 @@ use Rattle.lines.specs.Reading.{
   lineLength,
   nextAt,
 }
-use Rattle.lines.proofs.Theorems.Table.{highest-most, call-fields}
-use Rattle.lines.proofs.Theorems.Steps.{digitAt, scan-digit, scan-comma, scan-end, scan-wrong, fitting}
+use Rattle.lines.proofs.Theorems.Table.{highest-most, call-of-fields}
+use Rattle.lines.proofs.Theorems.Steps.{
+  digitAt,
+  scan-digit,
+  scan-comma,
+  scan-end,
+  scan-wrong,
+  Fitting,
+  fitting,
+}
 use Rattle.lines.proofs.Theorems.Grammar.{scan-is-grammar}
 
 -- the byte at a place
@@ -69,7 +77,7 @@ module _ (text : List ℕ) (at : ℕ) where
   read-none h = rw (drop-of-length-le text h)
 
   -- nothing is read yet
-  pub read-start : at < length text → ReadTo text at (replicate columnCount 0) 0 callCount true 0 at
+  pub read-start : at < length text → ReadTo text at (replicate columnCount 0) 0 highestCall true 0 at
   unfolding lineAt
   read-start h = record {
     from = omega arith;
@@ -87,7 +95,7 @@ module _ (text : List ℕ) (at : ℕ) where
 read-fields : (s f : List ℕ) → lineOf s ≡ fields f → fieldsOf (callOf f) ≡ f
 read-fields s f e =
     let known = scan-is-grammar s .known f e in
-    rw (known .1) (ap fieldsOf (call-fields (known .0)))
+    rw (known .1) (ap fieldsOf (call-of-fields (known .0)))
 
 module _ {text : List ℕ} {at : ℕ} {values : List ℕ} {column highest : ℕ} {empty : Bool} {value i : ℕ}
     (r : ReadTo text at values column highest empty value i) where
@@ -103,78 +111,80 @@ module _ {text : List ℕ} {at : ℕ} {values : List ℕ} {column highest : ℕ}
     ended-values : take (column + 1) (set values column value) ≡ take column values ++ (value ∷ [])
     ended-values = rw add-one (take-suc-set values column value (omega arith))
 
-    next-place : suc (i - at) ≡ i + 1 - at
-    next-place = omega arith
+    place-after : suc (i - at) ≡ i + 1 - at
+    place-after = omega arith
 
     scan-here : lineAt text at ≡ scan (byteAt text i ∷ drop (suc i) text) (i - at) (take column values) empty value
     scan-here = rw (← drop-cons text i 0 h) (r .rest)
 
-    -- the tests that the code makes are those of the scan
-    digit-test : {t : Bool} → digitFits column highest empty value (byteAt text i) ≡ t
-        → digitAt (take column values) empty value (byteAt text i) ≡ t
-    digit-test e = rw (ended-count, ← r .limit) e
+    -- the code's test for a digit is the scan's
+    module _ {fits : Bool} (digit : fits ≡ digitFits column highest empty value (byteAt text i)) where
+      digit-test : {t : Bool} → fits ≡ t → digitAt (take column values) empty value (byteAt text i) ≡ t
+      digit-test e = rw (ended-count, ← r .limit) (sym digit ∙ e)
 
-    end-test : {t : Bool} → endFits column empty (byteAt text i) ≡ t
-        → endFits (length (take column values)) empty (byteAt text i) ≡ t
-    end-test e = rw ended-count e
+      -- what is known of a byte that fits
+      pub digit-fitting : fits ≡ true → Fitting column highest empty value (byteAt text i)
+      digit-fitting e = fitting column highest empty value (byteAt text i) (sym digit ∙ e)
 
-    -- a digit that fits makes no number of more than 11 digits
-    pub digit-short : digitFits column highest empty value (byteAt text i) ≡ true
-        → value * 10 + (byteAt text i - zeroDigit) ≤ largestField
-    digit-short e =
-        let most = highest-most (getD (take column values) 0 0) column in
-        omega (arith, fitting column highest empty value (byteAt text i) e .below)
+      -- it makes no number of more than 11 digits
+      pub digit-short : fits ≡ true → value * 10 + (byteAt text i - zeroDigit) ≤ largestField
+      digit-short e =
+          let most = highest-most (getD (take column values) 0 0) column in
+          omega (arith, digit-fitting e .below)
 
-    -- a digit
-    pub read-digit : digitFits column highest empty value (byteAt text i) ≡ true
-        → ReadTo text at values column highest false (value * 10 + (byteAt text i - zeroDigit)) (i + 1)
-    read-digit e = record {
-      from = omega arith;
-      within = omega arith;
-      all-columns = r .all-columns;
-      in-columns = r .in-columns;
-      limit = r .limit;
-      short = digit-short e;
-      rest = scan-here ∙ scan-digit _ _ _ _ _ _ (digit-test e) ∙ rw (next-place, add-one);
-    }
-
-    module _ (not-digit : digitFits column highest empty value (byteAt text i) ≡ false) where
-      -- the end of a field that isn't the last
-      pub read-comma : endFits column empty (byteAt text i) ≡ true → (column ≡ lastColumn → ⊥) → {next : ℕ}
-          → next ≡ highestIn (getD (set values column value) 0 0) (column + 1)
-          → ReadTo text at (set values column value) (column + 1) next true 0 (i + 1)
-      read-comma e n l = record {
+      -- a digit
+      pub read-digit : fits ≡ true
+          → ReadTo text at values column highest false (value * 10 + (byteAt text i - zeroDigit)) (i + 1)
+      read-digit e = record {
         from = omega arith;
         within = omega arith;
-        all-columns = length-set values column value ∙ r .all-columns;
-        in-columns = omega arith;
-        limit = rw (getD-take (column + 1) (set values column value) 0 0 (omega arith)) l;
-        short = omega arith;
-        rest =
-            scan-here
-            ∙ scan-comma _ _ _ _ _ _ (digit-test not-digit) (end-test e) (rw ended-count (ne-eqb column lastColumn n))
-            ∙ rw (ended-values, next-place, add-one);
+        all-columns = r .all-columns;
+        in-columns = r .in-columns;
+        limit = r .limit;
+        short = digit-short e;
+        rest = scan-here ∙ scan-digit _ _ _ _ _ _ (digit-test e) ∙ rw (place-after, add-one);
       }
 
-      -- the end of the last field
-      last-ended : endFits column empty (byteAt text i) ≡ true → column ≡ lastColumn
-          → lineAt text at ≡ fields (set values column value)
-      last-ended e n =
-          scan-here
-          ∙ scan-end _ _ _ _ _ _ (digit-test not-digit) (end-test e) (rw ended-count (eq-eqb column lastColumn n))
-          ∙ ap fields (sym ended-values ∙ take-all (column + 1) (set values column value) (simp length-set (omega arith)))
+      -- and so is its test for the end of a field, where the byte is no digit
+      module _ (no-digit : fits ≡ false) {ends : Bool} (end : ends ≡ endFits column empty (byteAt text i)) where
+        end-test : {t : Bool} → ends ≡ t → endFits (length (take column values)) empty (byteAt text i) ≡ t
+        end-test e = rw ended-count (sym end ∙ e)
 
-      pub read-last : endFits column empty (byteAt text i) ≡ true → column ≡ lastColumn → {call : Call}
-          → call ≡ callOf (set values column value) → asRead call ≡ lineAt text at
-      unfolding lineAt
-      read-last e n c =
-          ap asRead c
-          ∙ ap fields (read-fields (drop at text) (set values column value) (last-ended e n))
-          ∙ sym (last-ended e n)
+        -- the end of a field that isn't the last
+        pub read-comma : ends ≡ true → (column ≡ lastColumn → ⊥) → {next : ℕ}
+            → next ≡ highestIn (getD (set values column value) 0 0) (column + 1)
+            → ReadTo text at (set values column value) (column + 1) next true 0 (i + 1)
+        read-comma e n l = record {
+          from = omega arith;
+          within = omega arith;
+          all-columns = length-set values column value ∙ r .all-columns;
+          in-columns = omega arith;
+          limit = rw (getD-take (column + 1) (set values column value) 0 0 (omega arith)) l;
+          short = omega arith;
+          rest =
+              scan-here
+              ∙ scan-comma _ _ _ _ _ _ (digit-test no-digit) (end-test e) (rw ended-count (ne-eqb column lastColumn n))
+              ∙ rw (ended-values, place-after, add-one);
+        }
 
-      -- a byte that is neither
-      pub read-wrong : endFits column empty (byteAt text i) ≡ false → wrongAt (i - at) ≡ lineAt text at
-      read-wrong e = sym (scan-here ∙ scan-wrong _ _ _ _ _ _ (digit-test not-digit) (end-test e))
+        -- the end of the last field
+        last-ended : ends ≡ true → column ≡ lastColumn → lineAt text at ≡ fields (set values column value)
+        last-ended e n =
+            scan-here
+            ∙ scan-end _ _ _ _ _ _ (digit-test no-digit) (end-test e) (rw ended-count (eq-eqb column lastColumn n))
+            ∙ ap fields (sym ended-values ∙ take-all (column + 1) (set values column value) (simp length-set (omega arith)))
+
+        pub read-last : ends ≡ true → column ≡ lastColumn → {call : Call}
+            → call ≡ callOf (set values column value) → asRead call ≡ lineAt text at
+        unfolding lineAt
+        read-last e n c =
+            ap asRead c
+            ∙ ap fields (read-fields (drop at text) (set values column value) (last-ended e n))
+            ∙ sym (last-ended e n)
+
+        -- a byte that is neither
+        pub read-wrong : ends ≡ false → wrongAt (i - at) ≡ lineAt text at
+        read-wrong e = sym (scan-here ∙ scan-wrong _ _ _ _ _ _ (digit-test no-digit) (end-test e))
 
 -- ---- the loop of `next_line`: where the next line starts, by the byte at a place
 

@@ -68,8 +68,8 @@ abbrev pub typesOf : List (Lft → RattleType) → Lft → List RattleType
 typesOf Ps κ = typesAt (slots Ps) (κ, tt)
 
 -- a signature with these types of parameters and this type of the result
-abbrev ended : List (Lft → RattleType) → (Lfts 1 → RattleType) → Ended
-ended Ps R = record {
+abbrev endedWith : List (Lft → RattleType) → (Lfts 1 → RattleType) → Ended
+endedWith Ps R = record {
   signature = record { lifetimes = 1; outlives = []; params = slots Ps; result = plain R };
   kept = all yes (slots Ps);
 }
@@ -80,7 +80,7 @@ pub record Claim (Ps : List (Lft → RattleType)) : Type 2 where
   pub holds : (κ : Lft) → Denots (typesOf Ps κ) → result κ .Denot → Type 0
 
 abbrev endedOf : {Ps : List (Lft → RattleType)} → Claim Ps → Ended
-endedOf {Ps} c = ended Ps (λ κs. c .result (κs .0))
+endedOf {Ps} c = endedWith Ps (λ κs. c .result (κs .0))
 
 abbrev pub read-line-claim : Claim (Text ∷ (λ κ. usize) ∷ [])
 read-line-claim = record { result = λ κ. line.the-row; holds = λ κ a r. readBy r ≡ lineAt (now (a .0)) (a .1 .0) }
@@ -108,8 +108,8 @@ module _ {M : Type 1} (𝓤 : URA M) (H : Heap 𝓤) (A : Atoms 𝓤) where
   abbrev pub Entry : Lft → Share → (Rs : List RattleType) → Denots Rs → Valss Rs → SProp 𝓤
   Entry κ q Rs a vss = sep 𝓤 (Token κ q) (sem 𝓤 H A (owns Rs a vss))
 
-  abbrev contractAt : (Ps : List (Lft → RattleType)) {R : Lfts 1 → RattleType} → Clauses 𝓤 (ended Ps R) → Contract 𝓤
-  contractAt Ps {R} c = tripleOf 𝓤 H A (ended Ps R .signature) (closing 𝓤 H A (ended Ps R) c)
+  abbrev contractAt : (Ps : List (Lft → RattleType)) {R : Lfts 1 → RattleType} → Clauses 𝓤 (endedWith Ps R) → Contract 𝓤
+  contractAt Ps {R} c = tripleOf 𝓤 H A (endedWith Ps R .signature) (closing 𝓤 H A (endedWith Ps R) c)
 
   module _ {Ps : List (Lft → RattleType)} (c : Claim Ps) where
     abbrev claimed : Clauses 𝓤 (endedOf c)
@@ -140,9 +140,9 @@ module _ {M : Type 1} {𝓤 : URA M} {H : Heap 𝓤} {A : Atoms 𝓤} {K : Type 
   local t n e = load t (from t (stop t)) (look t n e)
 
   -- a local that holds a value is freed
-  pub gives-up : K → {τ : Ty} {b : ℕ} {v : Val} {g : Goal 𝓤 H}
+  pub frees-local : K → {τ : Ty} {b : ℕ} {v : Val} {g : Goal 𝓤 H}
       → Step K W Γ (frees E g) (‵ (fat fullShare τ b zero v) ∷ ‵ (fdies τ b) ∷ Γ) (frees ((τ, b) ∷ E) g)
-  gives-up t = step (λ s. forget t 0 refl $ free1 t $ s)
+  frees-local t = step (λ s. forget t 0 refl $ free1 t $ s)
 
   -- A function that meets a claim is called, from what is had on its entry. It returns its result, of which the fact holds,
   -- and the token.
@@ -199,7 +199,7 @@ module _ {M : Type 1} (𝓤 : URA M) (H : Heap 𝓤) (A : Atoms 𝓤) (P : Param
   abbrev pub Passed : SProp 𝓤
   Passed = Entry 𝓤 H A κ q (P .row κ ∷ []) (x, tt) (P .vals κ x, tt)
 
-  module _ {R : Lfts 1 → RattleType} (c : Clauses 𝓤 (ended (P .row ∷ []) R)) (g : c (κ, tt) (x, tt) .ghost) where
+  module _ {R : Lfts 1 → RattleType} (c : Clauses 𝓤 (endedWith (P .row ∷ []) R)) (g : c (κ, tt) (x, tt) .ghost) where
     -- what is had at exit, where the contract's clauses are c and its ghost value is g
     abbrev pub Returned : Val → SProp 𝓤
     Returned = contractAt 𝓤 H A (P .row ∷ []) c .post (((κ, tt), (q, tt), tt, (x, tt), (P .vals κ x, tt)), g)
@@ -211,14 +211,14 @@ module _ {M : Type 1} (𝓤 : URA M) (H : Heap 𝓤) (A : Atoms 𝓤) (P : Param
         → ent 𝓤 Passed (WpFn 𝓤 H C Λ f (flat (P .row κ ∷ []) (P .vals κ x, tt)) Returned)
 
     -- what the `ensures` says of the result r and of last values
-    abbrev Holds : R (κ, tt) .Denot → Lasts (ended (P .row ∷ []) R) (κ, tt) (x, tt) → SProp 𝓤
-    Holds r ws = c (κ, tt) (x, tt) .ensures g r (atExit (ended (P .row ∷ []) R) (κ, tt) (x, tt) ws)
+    abbrev Holds : R (κ, tt) .Denot → Lasts (endedWith (P .row ∷ []) R) (κ, tt) (x, tt) → SProp 𝓤
+    Holds r ws = c (κ, tt) (x, tt) .ensures g r (atExit (endedWith (P .row ∷ []) R) (κ, tt) (x, tt) ws)
 
     -- A walk ends at a result of which the `ensures` holds.
     pub ends : Given 𝓤 H A → (v : Val) (r : R (κ, tt) .Denot) → ent 𝓤 (emp 𝓤) (Holds r (P .unsaid κ x .0, tt))
         → ent 𝓤 (⋆ 𝓤 H A (‵ (R (κ, tt) .own r (v ∷ [])) ∷ raw (Token 𝓤 H A κ q) ∷ [])) (Returned v)
     ends W v r holds =
-        let T : Ended = ended (P .row ∷ []) R in
+        let T : Ended = endedWith (P .row ∷ []) R in
         qed W (‵ (R (κ, tt) .own r (v ∷ [])) ∷ raw (Token 𝓤 H A κ q) ∷ []) ∵ updating ! $ at-once ! $
         show ! (λ (y : R (κ, tt) .Denot). sep 𝓤 (sep 𝓤 (Token 𝓤 H A κ q) (sem 𝓤 H A (R (κ, tt) .own y (v ∷ []))))
         (ensured 𝓤 H A T c (κ, tt) (x, tt) g y)) r $
@@ -231,7 +231,7 @@ module _ {M : Type 1} (𝓤 : URA M) (H : Heap 𝓤) (A : Atoms 𝓤) (P : Param
 
 -- A function meets its contract, from a walk of its code at each argument.
 pub meets : {M : Type 1} (𝓤 : URA M) (H : Heap 𝓤) (𝓜 : Model 𝓤 H) (𝓖 : GhostRules 𝓤 H) (𝓡 : Running 𝓤 H 𝓜) (P : Param)
-    {R : Lfts 1 → RattleType} (c : Clauses 𝓤 (ended (P .row ∷ []) R)) (γ : Routines) (k : Name) (f : Fn)
+    {R : Lfts 1 → RattleType} (c : Clauses 𝓤 (endedWith (P .row ∷ []) R)) (γ : Routines) (k : Name) (f : Fn)
     → Closed 𝓤 H (tables 𝓤 H 𝓜 𝓡 γ .C) (tables 𝓤 H 𝓜 𝓡 γ .Λ) k f
     → ((κ : Lft) (q : Share) (x : P .row κ .Denot) (g : c (κ, tt) (x, tt) .ghost)
     → Walk 𝓤 H (𝓖 .A) P κ q x c g (tables 𝓤 H 𝓜 𝓡 γ .C) (tables 𝓤 H 𝓜 𝓡 γ .Λ) f)
@@ -242,7 +242,7 @@ meets 𝓤 H 𝓜 𝓖 𝓡 P {R} c γ k f closed walk =
     let q = y .0 .1 .0 in
     let x = y .0 .3 .0 in
     via 𝓤 _ (fst∗ 𝓤 _ (c (κ, tt) (x, tt) .requires (y .1)))
-    (said 𝓤 H (𝓖 .A) (ended (P .row ∷ []) R .signature) (κ, tt) (q, tt) (P .vals κ, tt) (P .tells κ, tt) (x, tt)
+    (said 𝓤 H (𝓖 .A) (endedWith (P .row ∷ []) R .signature) (κ, tt) (q, tt) (P .vals κ, tt) (P .tells κ, tt) (x, tt)
     (λ us. WpFn 𝓤 H (tables 𝓤 H 𝓜 𝓡 γ .C) (tables 𝓤 H 𝓜 𝓡 γ .Λ) f (flat (P .row κ ∷ []) us)
     (contractAt 𝓤 H (𝓖 .A) (P .row ∷ []) c .post (((κ, tt), (q, tt), tt, (x, tt), us), y .1))) (y .0 .4)
     (λ are. walk κ q x (y .1) (P .lawful 𝓤 H (𝓖 .A) (givenOf 𝓤 H 𝓜 𝓖) κ .typed x (P .vals κ x) (are .0)))))

@@ -3,13 +3,23 @@ use Prim.Native.Nat.{ℕ, suc, _+_, _≤_, min}
 use native.Mathlib.Nat.{add-zero}
 use native.Mathlib.Omega.{arith}
 use mathlib.Core.Path.{_≡_, refl, sym, _∙_, ap}
-use mathlib.Core.List.{List, [], _∷_, _++_}
+use mathlib.Core.List.{List, [], _∷_, _++_, append-assoc}
 use mathlib.Core.Bool.{Bool, true, false}
 use lib.ListN.{length, set, take, drop, length-append}
-use lib.Seq.{sets, length-sets, sets-eq, set-out, drop-set-lt}
+use lib.Seq.{
+  sets,
+  length-sets,
+  sets-eq,
+  set-out,
+  drop-set-lt,
+  take-set-le,
+  length-take-le,
+  drop-at,
+  take-append-seam,
+}
 use lib.Dec.{leb}
 use borrow.Author.Tests.{leb-true, leb-false}
-use Rattle.lines.specs.Writing.{Put}
+use Rattle.lines.specs.Writing.{Put, PutLeaves}
 
 -- ---- a run of stores
 
@@ -45,6 +55,22 @@ sets-behind l at [] = refl
 sets-behind l at (x ∷ xs) =
     rw place-behind (sets-behind (set l at x) (suc at) xs ∙ drop-set-lt (suc at + length xs) l at x (omega arith))
 
+-- and what is in front of them
+sets-before : (l : List ℕ) (n at : ℕ) (xs : List ℕ) → n ≤ at → take n (sets l at xs) ≡ take n l
+sets-before l n at [] h = refl
+sets-before l n at (x ∷ xs) h = sets-before (set l at x) n (suc at) xs (omega arith) ∙ take-set-le n l at x h
+
+sets-front : (l : List ℕ) (at : ℕ) (xs : List ℕ) → take at (sets l at xs) ≡ take at l
+sets-front l at xs = sets-before l at at xs (omega arith)
+
+-- where they fit they stand at their place
+sets-there : (l : List ℕ) (at : ℕ) (xs : List ℕ) → at + length xs ≤ length l → take (length xs) (drop at (sets l at xs)) ≡ xs
+sets-there l at xs h =
+    let rest = drop (at + length xs) l in
+    let front = length-take-le at l (omega arith) in
+    rw (sets-eq xs l at h, append-assoc (take at l) xs rest, drop-at (take at l) (xs ++ rest) at front)
+    (take-append-seam xs rest)
+
 -- ---- bytes put
 
 -- some bytes, and then some behind them
@@ -58,12 +84,11 @@ put-then before middle after at r q xs ys p s =
       s .1 ∙ rw place (sets-min middle (at + length xs) ys ∙ rw (p .1) (sym (sets-append before at xs ys))),
     )
 
--- where they fit they are the bytes put, between those before and those behind, which stay
-pub put-whole : (before after : List ℕ) (at r : ℕ) (xs : List ℕ) → Put before at xs r after → at + length xs ≤ length before
-    → (r ≡ at + length xs) × (after ≡ take at before ++ xs ++ drop (at + length xs) before)
-put-whole before after at r xs p h = (omega (arith, p .0), p .1 ∙ sets-eq xs before at h)
-
--- the bytes behind them stay, whether they fit or not
-pub put-behind : (before after : List ℕ) (at r : ℕ) (xs : List ℕ) → Put before at xs r after
-    → drop (at + length xs) after ≡ drop (at + length xs) before
-put-behind before after at r xs p = rw (p .1) (sets-behind before at xs)
+-- what a put leaves
+pub put-leaves : (before after : List ℕ) (at r : ℕ) (xs : List ℕ) → Put before at xs r after → PutLeaves before at xs after
+put-leaves before after at r xs p = rw (p .1) (record {
+  size = length-sets before at xs;
+  front = sets-front before at xs;
+  behind = sets-behind before at xs;
+  there = sets-there before at xs;
+})

@@ -10,6 +10,7 @@ use lib.Seq.{append-snoc}
 use lib.Dec.{ltb}
 use borrow.Author.Tests.{ltb-true, ltb-false, lt-ltb, le-ltb}
 use Rattle.book.specs.Sums.{All}
+use Rattle.book.proofs.Theorems.Sums.{all-append}
 use Rattle.lines.specs.Bytes.{zeroDigit}
 use Rattle.lines.specs.Decimal.{digits, decimal, digitLimit, Short, Digit, valueFrom, StandsFor, DecimalStands}
 use Rattle.lines.specs.Fields.{largestField}
@@ -132,11 +133,7 @@ stands-is-decimal (b ∷ bs) n h =
     let behind = decimal-append bs v (λ e. h .2 (omega (arith, a .0 .0))) (a .1) in
     rw (← h .3, behind, decimal-one v (omega (arith, a .0 .1)), byte)
 
--- a digit behind digits, and the number that they stand for then
-all-more : (ds : List ℕ) (b : ℕ) → All Digit ds → Digit b → All Digit (ds ++ (b ∷ []))
-all-more [] b a h = (h, tt)
-all-more (x ∷ ds) b a h = (a .0, all-more ds b (a .1) h)
-
+-- the number that digits stand for with a digit behind them
 value-more : (ds : List ℕ) (v b : ℕ) → valueFrom v (ds ++ (b ∷ [])) ≡ valueFrom v ds * 10 + (b - zeroDigit)
 value-more [] v b = refl
 value-more (x ∷ ds) v b = value-more ds (v * 10 + (x - zeroDigit)) b
@@ -145,7 +142,7 @@ value-more (x ∷ ds) v b = value-more ds (v * 10 + (x - zeroDigit)) b
 stands-more : (ds : List ℕ) (v d : ℕ) → 0 < v → d < 10 → StandsFor ds v → StandsFor (ds ++ ((zeroDigit + d) ∷ [])) (v * 10 + d)
 stands-more [] v d h g s = absurd (omega (arith, s .1))
 stands-more (b ∷ bs) v d h g s = (
-  all-more (b ∷ bs) (zeroDigit + d) (s .0) (omega arith, omega arith),
+  all-append Digit (b ∷ bs) ((zeroDigit + d) ∷ []) (s .0) ((omega arith, omega arith), tt),
   omega arith,
   λ e. absurd (let nothing : 0 * 10 + (b - zeroDigit) ≡ v = rw (s .2 e) at (s .3) in omega arith),
   (let value = value-more (b ∷ bs) 0 (zeroDigit + d) in omega (arith, s .3)),

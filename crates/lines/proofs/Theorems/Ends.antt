@@ -1,26 +1,24 @@
--- Where a line ends: the line of a call has its one LF at its end, and the first wrong byte stands in the line that is passed
--- over. Assumes nothing.
-use Prim.Native.Nat.{ℕ, suc, _+_, _-_, _<_}
+-- Where reading goes on: the line of a call has its one LF at its end, and no LF stands before the first wrong byte.
+-- Assumes nothing.
+use Prim.Native.Nat.{ℕ, zero, suc, _+_, _<_}
 use native.Mathlib.Omega.{arith}
-use mathlib.Core.Logic.{_⊎_, inl, inr}
-use mathlib.Core.Path.{_≡_, refl, sym, ap, subst, _∙_}
+use mathlib.Core.Path.{_≡_, refl, sym, ap, _∙_}
 use mathlib.Core.List.{List, [], _∷_, _++_, append-assoc, append-nil}
 use mathlib.Core.Bool.{Bool, true, false, cond}
-use lib.ListN.{length, take, drop, length-append, length-drop}
-use lib.Seq.{take-all, take-append-seam, length-take-le}
-use lib.Dec.{ltb, eqb}
-use borrow.Author.Tests.{ne-eqb, ltb-true, ltb-false}
+use lib.ListN.{length, take, drop, length-append, take-append-drop}
+use lib.Seq.{length-take-le, drop-drop}
+use lib.Dec.{eqb}
+use borrow.Author.Tests.{ne-eqb}
 use Rattle.book.specs.Sums.{All}
 use Rattle.lines.specs.Bytes.{lineFeed}
 use Rattle.lines.specs.Decimal.{decimal, Digit}
 use Rattle.lines.specs.Fields.{Call, fieldsOf}
 use Rattle.lines.specs.Grammar.{behind, joined, written, Begins, FirstWrong}
-use Rattle.lines.specs.Reading.{wrongAt, lineOf, lineAt, lineLength, nextAt}
-use Rattle.lines.specs.Texts.{WrongInLine}
+use Rattle.lines.specs.Reading.{lineAt, lineLength, nextAt}
+use Rattle.lines.specs.Texts.{GoesOn}
 use Rattle.lines.proofs.Theorems.Decimal.{decimal-stands}
 use Rattle.lines.proofs.Theorems.Table.{fields-length}
 use Rattle.lines.proofs.Theorems.Grammar.{scan-is-grammar}
-use Rattle.lines.proofs.Theorems.Texts.{line-first, length-within}
 
 -- ---- the line of a call
 
@@ -58,71 +56,58 @@ written-ends c = joined-ends (fieldsOf c) (omega (arith, fields-length c))
 
 -- ---- a wrong line
 
--- a first line with more of the text behind it ends in LF
-first-ends : (s : List ℕ) → lineLength s < length s → EndsLine (take (lineLength s) s)
+-- a line that goes on behind some bytes does so whatever stands there
+goes-behind : (p more : List ℕ) → length p < lineLength (p ++ more) → (s : List ℕ)
+    → lineLength (p ++ s) ≡ length p + lineLength s
 unfolding lineLength
-first-ends [] h more = absurd (omega arith)
-first-ends (b ∷ bs) h more = go (eqb b lineFeed) refl h (λ l. first-ends bs l more)
+goes-behind [] more h s = omega arith
+goes-behind (b ∷ p) more h s = go (eqb b lineFeed) h (λ l. goes-behind p more l s)
   where
-    -- how many bytes of the rest the line has, by whether b is LF
-    rest : Bool → ℕ
-    rest t = cond t 0 (lineLength bs)
+    go : (t : Bool) → suc (length p) < suc (cond t 0 (lineLength (p ++ more)))
+        → (length p < lineLength (p ++ more) → lineLength (p ++ s) ≡ length p + lineLength s)
+        → suc (cond t 0 (lineLength (p ++ s))) ≡ suc (length p) + lineLength s
+    go true l rest = absurd (omega arith)
+    go false l rest = omega (arith, rest (omega arith))
 
-    go : (t : Bool) → eqb b lineFeed ≡ t → suc (rest t) < suc (length bs)
-        → (lineLength bs < length bs → lineLength (take (lineLength bs) bs ++ more) ≡ length (take (lineLength bs) bs))
-        → lineLength (b ∷ (take (rest t) bs ++ more)) ≡ suc (length (take (rest t) bs))
-    go true e l ends = rw e
-    go false e l ends = rw e (ap suc (ends (omega arith)))
-
--- bytes that begin a correct line and end in LF are one
-ends-whole : (l : List ℕ) → EndsLine l → (begun : Begins l) → l ≡ written (begun .1 .0)
-ends-whole l ends begun =
-    let c = begun .1 .0 in
-    let more = begun .0 in
-    let whole = sym (written-ends c []) ∙ ap lineLength (append-nil (written c) ∙ sym (begun .1 .2)) ∙ ends more in
-    sym (take-append-seam l more) ∙ ap (take (length l)) (begun .1 .2) ∙ take-all (length l) (written c) (omega arith)
-
--- so the first wrong byte of a line that ends in LF isn't behind it
-not-behind : (l : List ℕ) (place : ℕ) → 0 < length l → EndsLine l → FirstWrong l place → place ≡ length l → ⊥
-not-behind l place h ends w e =
-    let all : take (suc (place - 1)) l ≡ l = take-all (suc (place - 1)) l (omega arith) in
-    let begun : Begins l = subst Begins all (w .before (place - 1) (omega arith)) in
-    let c = begun .1 .0 in
-    w .unread c (begun .1 .1, ([], ends-whole l ends begun ∙ sym (append-nil (written c))))
-
--- and that of a text stands in its first line, or is the place after its last byte
-wrong-in-first : (s : List ℕ) (place : ℕ) → lineOf s ≡ wrongAt place → (place < lineLength s) ⊎ (place ≡ length s)
-wrong-in-first s place e = go (ltb place (lineLength s)) (ltb (lineLength s) (length s)) refl refl
+-- so a line goes on behind bytes that begin a correct line and aren't one
+begun-behind : (p : List ℕ) (begun : Begins p) → (p ≡ written (begun .1 .0) → ⊥) → (s : List ℕ)
+    → lineLength (p ++ s) ≡ length p + lineLength s
+begun-behind p begun part = goes-behind p more (omega (arith, whole, length-append p more, some more part-more))
   where
-    l : List ℕ
-    l = take (lineLength s) s
+    c : Call
+    c = begun .1 .0
 
-    w : (0 < length l) × FirstWrong l place
-    w = scan-is-grammar l .wrong place .0 (line-first s ∙ e)
+    more : List ℕ
+    more = begun .0
 
-    long : length l ≡ lineLength s
-    long = length-take-le (lineLength s) s (length-within s)
+    whole : lineLength (p ++ more) ≡ length (p ++ more)
+    whole = rw (begun .1 .2) (ap lineLength (sym (append-nil (written c))) ∙ written-ends c [])
 
-    go : (t u : Bool) → ltb place (lineLength s) ≡ t → ltb (lineLength s) (length s) ≡ u
-        → (place < lineLength s) ⊎ (place ≡ length s)
-    go true u p q = inl (ltb-true place (lineLength s) p)
-    go false true p q =
-        let above = ltb-false place (lineLength s) p in
-        let ends = first-ends s (ltb-true (lineLength s) (length s) q) in
-        absurd (not-behind l place (w .0) ends (w .1) (omega (arith, w .1 .within, long)))
-    go false false p q =
-        let above = ltb-false place (lineLength s) p in
-        let below = ltb-false (lineLength s) (length s) q in
-        inr (omega (arith, w .1 .within, long, length-within s))
+    part-more : more ≡ [] → ⊥
+    part-more e = part (sym (append-nil p) ∙ ap (λ l. p ++ l) (sym e) ∙ begun .1 .2)
 
-pub wrong-in-line : WrongInLine
+    some : (l : List ℕ) → (l ≡ [] → ⊥) → 0 < length l
+    some [] n = absurd (n refl)
+    some (b ∷ l) n = omega arith
+
+-- the line of a text goes on behind the bytes before its first wrong one
+wrong-behind : (s : List ℕ) (place : ℕ) → FirstWrong s place → lineLength s ≡ place + lineLength (drop place s)
+wrong-behind s zero w = omega arith
+wrong-behind s (suc n) w =
+    let p = take (suc n) s in
+    let begun = w .before n (omega arith) in
+    let rest = take-append-drop (suc n) s in
+    let part : p ≡ written (begun .1 .0) → ⊥ =
+    λ e. w .unread (begun .1 .0) (begun .1 .1, (drop (suc n) s, sym rest ∙ ap (λ l. l ++ drop (suc n) s) e)) in
+    ap lineLength (sym rest) ∙ begun-behind p begun part (drop (suc n) s)
+    ∙ ap (λ k. k + lineLength (drop (suc n) s)) (length-take-le (suc n) s (w .within))
+
+pub goes-on : (s : List ℕ) (at : ℕ) → GoesOn s at
 unfolding lineAt nextAt
-wrong-in-line s at place e = go (wrong-in-first (drop at s) place e)
-  where
-    some : 0 < length (drop at s)
-    some = scan-is-grammar (drop at s) .wrong place .0 e .0
-
-    go : (place < lineLength (drop at s)) ⊎ (place ≡ length (drop at s))
-        → (at + place < at + lineLength (drop at s)) ⊎ (at + place ≡ length s)
-    go (inl h) = inl (omega arith)
-    go (inr h) = inr (omega (arith, some, length-drop at s))
+goes-on s at = record {
+  correct = λ c h. ap (λ n. at + n) (ap lineLength (h .1 .1) ∙ written-ends c (h .1 .0));
+  wrong = λ place e.
+      let w = scan-is-grammar (drop at s) .wrong place .0 e .1 in
+      let rest = ap lineLength (drop-drop place at s) in
+      omega (arith, wrong-behind (drop at s) place w, rest);
+}

@@ -37,9 +37,9 @@ use Rattle.lines.proofs.Theorems.Table.{
   in-range-next,
   fields-length,
   fields-in-range,
-  call-fields,
+  call-of-fields,
   same-call,
-  fields-call,
+  fields-of-call,
 }
 use Rattle.lines.proofs.Theorems.Steps.{digitAt, fitting, scan-wrong}
 use Rattle.lines.proofs.Theorems.Scanned.{
@@ -72,7 +72,7 @@ none-stands s place e c h = let q = read-written c s h in let z : _≡_ {A = ℕ
 -- the fields of a line are those of a call that a line can hold
 call-of-whole : (l : List ℕ) → Whole l → (c : Call) × Writable c × (l ≡ fieldsOf c)
 call-of-whole l h =
-    let e = fields-call l (h .0) (h .1) in
+    let e = fields-of-call l (h .0) (h .1) in
     (callOf l, rw e (in-range-short (getD l 0 0) 0 l (h .1)), sym e)
 
 -- ---- the bytes before a state begin a correct line
@@ -227,10 +227,11 @@ wrong-answered s place h w = go (lineOf s) (line-right s)
     go (wrongAt j) t = ap wrongAt (one-place s j place t w)
     go noLine t = absurd (omega (arith, ap length t))
 
-some-byte : (s : List ℕ) (place : ℕ) → lineOf s ≡ wrongAt place → 0 < length s
+-- where there is a line there is a byte
+pub some-byte : (s : List ℕ) → (lineOf s ≡ noLine → ⊥) → 0 < length s
 unfolding lineOf
-some-byte [] place e = let z : _≡_ {A = ℕ} 0 1 = cc in omega arith
-some-byte (b ∷ bs) place e = omega arith
+some-byte [] n = absurd (n refl)
+some-byte (b ∷ bs) n = omega arith
 
 -- ---- the theorems
 
@@ -240,7 +241,7 @@ scan-is-grammar s =
     record {
       call = λ c. (λ e. let t = rw e at (line-right s) in rw (same-call c (t .0) (t .1)) (t .2), call-answered c s);
       wrong = λ place. (
-        λ e. (some-byte s place e, rw e at (line-right s)),
+        λ e. (some-byte s (λ z. let y : _≡_ {A = ℕ} 0 1 = cc in omega arith), rw e at (line-right s)),
         λ h. wrong-answered s place (h .0) (h .1),
       );
       none = (λ e. rw e at (line-right s), λ e. rw e);
@@ -248,18 +249,18 @@ scan-is-grammar s =
     }
 
 -- no two answers have the same values
-pub same-answer : (q r : Line) → readBy q ≡ readBy r → q ≡ r
-same-answer q r e = sym (back q) ∙ ap answer e ∙ back r
+pub read-by-injective : (q r : Line) → readBy q ≡ readBy r → q ≡ r
+read-by-injective q r e = sym (back q) ∙ ap answer e ∙ back r
   where
     answer : Reading → Line
     answer (fields f) = Line.Correct (callOf f)
     answer (wrongAt place) = Line.Wrong place
-    answer noLine = Line.Absent
+    answer noLine = Line.NoLine
 
     back : (q : Line) → answer (readBy q) ≡ q
-    back (Line.Correct c) = ap Line.Correct (call-fields c)
+    back (Line.Correct c) = ap Line.Correct (call-of-fields c)
     back (Line.Wrong place) = refl
-    back Line.Absent = refl
+    back Line.NoLine = refl
 
 -- so what `read_line` answers is right by the grammar
 pub is-right : (s : List ℕ) (at : ℕ) (r : Line) → readBy r ≡ lineAt s at → IsRight (drop at s) r
@@ -269,8 +270,8 @@ is-right s at r e =
     record {
       call = λ c. Iff·trans (same (Line.Correct c)) (right .call c);
       wrong = λ place. Iff·trans (same (Line.Wrong place)) (right .wrong place);
-      none = Iff·trans (same Line.Absent) (right .none);
+      none = Iff·trans (same Line.NoLine) (right .none);
     }
   where
     same : (q : Line) → (r ≡ q) ↔ (lineAt s at ≡ readBy q)
-    same q = (λ p. sym e ∙ ap readBy p, λ p. same-answer r q (e ∙ p))
+    same q = (λ p. sym e ∙ ap readBy p, λ p. read-by-injective r q (e ∙ p))

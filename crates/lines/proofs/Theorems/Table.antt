@@ -15,7 +15,7 @@ use Rattle.lines.specs.Fields.{
   Call,
   columnCount,
   largestField,
-  callCount,
+  highestCall,
   fieldsOf,
   highestOf,
   highestIn,
@@ -49,7 +49,7 @@ all-at n (m ∷ l) (suc place) h = all-at n l place (h .1)
 
 -- what holds of the highest values of each call
 Row : List ℕ → Type 0
-Row l = (getD l 0 0 ≡ callCount) × All (λ n. n ≤ largestField) l
+Row l = (getD l 0 0 ≡ highestCall) × All (λ n. n ≤ largestField) l
 
 row : (call : ℕ) → Row (highestOf call)
 unfolding Row
@@ -61,7 +61,7 @@ row call =
     (cond-holds Row (eqb call 5) (omega arith) (omega arith)))))
 
 -- the first field is at most the highest call number, whatever the call
-highest-call : (call : ℕ) → highestIn call 0 ≡ callCount
+highest-call : (call : ℕ) → highestIn call 0 ≡ highestCall
 unfolding Row
 highest-call call = row call .0
 
@@ -143,12 +143,12 @@ fields-length c = of-call c .count
 pub fields-in-range : (c : Call) → Writable c → InRange (getD (fieldsOf c) 0 0) 0 (fieldsOf c)
 fields-in-range c h = of-call c .range (all-map Short (λ n. n ≤ largestField) short-most (fieldsOf c) h)
 
-pub call-fields : (c : Call) → callOf (fieldsOf c) ≡ c
-call-fields c = of-call c .back
+pub call-of-fields : (c : Call) → callOf (fieldsOf c) ≡ c
+call-of-fields c = of-call c .back
 
 -- so calls with the same fields are the same
 pub same-call : (c d : Call) → fieldsOf c ≡ fieldsOf d → c ≡ d
-same-call c d e = sym (call-fields c) ∙ ap callOf e ∙ call-fields d
+same-call c d e = sym (call-of-fields c) ∙ ap callOf e ∙ call-of-fields d
 
 -- ---- fields in their ranges are those of their call
 
@@ -186,12 +186,12 @@ abbrev Masks : ℕ → Type 0
 Masks call = (f : List ℕ) → fieldsOf (callOf (call ∷ f)) ≡ masked columnCount call 0 (λ i. getD (call ∷ f) i 0)
 
 -- for each call by computation
-masks : (i : ℕ) → i < callCount → Masks (suc i)
+masks : (i : ℕ) → i < highestCall → Masks (suc i)
 unfolding Each masked
-masks = each callCount (λ i. Masks (suc i)) search
+masks = each highestCall (λ i. Masks (suc i)) search
 
-pub fields-call : (f : List ℕ) → length f ≡ columnCount → InRange (getD f 0 0) 0 f → fieldsOf (callOf f) ≡ f
-fields-call [] n h = absurd (omega arith)
-fields-call (zero ∷ f) n h = absurd (omega arith)
-fields-call (suc i ∷ f) n h =
+pub fields-of-call : (f : List ℕ) → length f ≡ columnCount → InRange (getD f 0 0) 0 f → fieldsOf (callOf f) ≡ f
+fields-of-call [] n h = absurd (omega arith)
+fields-of-call (zero ∷ f) n h = absurd (omega arith)
+fields-of-call (suc i ∷ f) n h =
     masks i (omega (arith, highest-call (suc i))) f ∙ rw n at (masked-same (suc i) 0 (suc i ∷ f) h)

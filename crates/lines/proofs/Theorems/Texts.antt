@@ -115,7 +115,7 @@ length-above [] h = h
 length-above (b ∷ bs) h = omega arith
 
 -- and no more than the text
-pub length-within : (s : List ℕ) → lineLength s ≤ length s
+length-within : (s : List ℕ) → lineLength s ≤ length s
 unfolding lineLength
 length-within [] = omega arith
 length-within (b ∷ bs) = go (eqb b lineFeed) (length-within bs)

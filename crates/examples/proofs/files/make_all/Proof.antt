@@ -20,7 +20,7 @@ sub-say : tie.Need-sub-say Inv-loop μ-loop
 sub-say c = omega (arith, next-place _ _ (c .next-line2 .ensures) (c .before .before .before .loop-test .taken))
 
 part-say-start : tie.Need-part-say-start Inv-loop μ-loop
-part-say-start c = omega (arith, next-place _ _ (c .next-line2 .ensures) (c .before .before .before .loop-test .taken))
+part-say-start c = sub-say c
 
 part-say-end : tie.Need-part-say-end Inv-loop μ-loop
 part-say-end c = omega (arith, next-place _ _ (c .next-line2 .ensures) (c .before .before .before .loop-test .taken))

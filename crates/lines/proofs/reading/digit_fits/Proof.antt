@@ -1,8 +1,8 @@
 -- `digit_fits` meets its contract: each return by the tests before it. Assumes nothing.
 use native.Mathlib.Omega.{arith}
 use borrow.Author.Needs.{needs}
-use borrow.Author.Tests.{le-leb, lt-leb, not-true, not-false}
-use mathlib.Core.Path.{sym, _∙_}
+use borrow.Author.Tests.{le-leb, lt-leb}
+use Rattle.book.proofs.Functions.Tested.{failed, passed}
 use Rattle.lines.specs.Reading.{digitFits}
 use Rattle.lines.proofs.reading.digit_fits.Statement.{statement}
 use Rattle.lines.proofs.reading.digit_fits.Tie as tie
@@ -23,7 +23,7 @@ returns-3 c =
     rw (
       le-leb _ _ (at2 .before .if1 .left),
       le-leb _ _ (at2 .if2 .left),
-      sym (takes .takes-digit .ensures) ∙ not-true _ (c .if3 .taken),
+      failed (takes .takes-digit .ensures) (c .if3 .taken),
     )
 
 returns-4 : tie.Need-returns-4
@@ -35,7 +35,7 @@ returns-4 c =
     rw (
       le-leb _ _ (at2 .before .if1 .left),
       le-leb _ _ (at2 .if2 .left),
-      sym (takes .takes-digit .ensures) ∙ not-false _ (at3 .if3 .left),
+      passed (takes .takes-digit .ensures) (at3 .if3 .left),
       lt-leb _ _ (rw (c .before .lowest-in .ensures) at (c .if4 .taken)),
     )
 
@@ -48,7 +48,7 @@ returns-5 c =
     rw (
       le-leb _ _ (at2 .before .if1 .left),
       le-leb _ _ (at2 .if2 .left),
-      sym (takes .takes-digit .ensures) ∙ not-false _ (at3 .if3 .left),
+      passed (takes .takes-digit .ensures) (at3 .if3 .left),
       le-leb _ _ (rw (c .before .lowest-in .ensures) at (c .if4 .left)),
     )
 

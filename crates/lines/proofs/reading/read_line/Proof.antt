@@ -4,13 +4,12 @@ use Prim.Native.Nat.{_-_}
 use native.Mathlib.Omega.{arith}
 use borrow.Author.Needs.{needs}
 use lib.ListN.{length}
-use mathlib.Core.Path.{sym, _∙_}
-use Rattle.lines.proofs.Theorems.Steps.{fitting}
 use Rattle.lines.proofs.Functions.Reading.{
   ReadTo,
   read-none,
   read-start,
   read-out,
+  digit-fitting,
   digit-short,
   read-digit,
   read-comma,
@@ -38,25 +37,26 @@ loop-holds c = read-start _ _ (c .if1 .left)
 -- ---- a digit
 
 sub-value : tie.Need-sub-value Inv-loop μ-loop
-sub-value c = fitting _ _ _ _ _ (sym (c .before .digit-fits .ensures) ∙ c .if2 .taken) .low
+sub-value c =
+    let turn = c .before .before .before in
+    digit-fitting (turn .before .loop .inv) (turn .loop-test .taken) (c .before .digit-fits .ensures) (c .if2 .taken) .low
 
 cast-value : tie.Need-cast-value Inv-loop μ-loop
-cast-value c = omega (arith, fitting _ _ _ _ _ (sym (c .before .digit-fits .ensures) ∙ c .if2 .taken) .high)
+cast-value c =
+    let turn = c .before .before .before in
+    let digit = c .before .digit-fits .ensures in
+    omega (arith, digit-fitting (turn .before .loop .inv) (turn .loop-test .taken) digit (c .if2 .taken) .high)
 
 add-value : tie.Need-add-value Inv-loop μ-loop
 add-value c =
     let turn = c .before .before .before in
-    omega (
-      arith,
-      digit-short (turn .before .loop .inv) (turn .loop-test .taken)
-          (sym (c .before .digit-fits .ensures) ∙ c .if2 .taken),
-    )
+    let digit = c .before .digit-fits .ensures in
+    omega (arith, digit-short (turn .before .loop .inv) (turn .loop-test .taken) digit (c .if2 .taken))
 
 loop-again : tie.Need-loop-again Inv-loop μ-loop
 loop-again c =
     let turn = c .before .before .before in
-    read-digit (turn .before .loop .inv) (turn .loop-test .taken)
-    (sym (c .before .digit-fits .ensures) ∙ c .if2 .taken)
+    read-digit (turn .before .loop .inv) (turn .loop-test .taken) (c .before .digit-fits .ensures) (c .if2 .taken)
 
 -- ---- the end of a field
 
@@ -65,20 +65,16 @@ returns-2 c =
     let end = c .before .before in
     let other = end .before .before in
     let turn = other .before .before .before in
-    read-last (turn .before .loop .inv) (turn .loop-test .taken)
-    (sym (other .before .digit-fits .ensures) ∙ other .if2 .left)
-    (sym (end .before .end-fits .ensures) ∙ end .if3 .taken)
-    (c .before .if4 .taken) (c .call-of .ensures)
+    read-last (turn .before .loop .inv) (turn .loop-test .taken) (other .before .digit-fits .ensures) (other .if2 .left)
+    (end .before .end-fits .ensures) (end .if3 .taken) (c .before .if4 .taken) (c .call-of .ensures)
 
 loop-again-2 : tie.Need-loop-again-2 Inv-loop μ-loop
 loop-again-2 c =
     let end = c .before .before in
     let other = end .before .before in
     let turn = other .before .before .before in
-    read-comma (turn .before .loop .inv) (turn .loop-test .taken)
-    (sym (other .before .digit-fits .ensures) ∙ other .if2 .left)
-    (sym (end .before .end-fits .ensures) ∙ end .if3 .taken)
-    (c .before .if4 .left) (c .highest-in .ensures)
+    read-comma (turn .before .loop .inv) (turn .loop-test .taken) (other .before .digit-fits .ensures) (other .if2 .left)
+    (end .before .end-fits .ensures) (end .if3 .taken) (c .before .if4 .left) (c .highest-in .ensures)
 
 -- ---- a wrong byte, and the end of the text
 
@@ -86,9 +82,8 @@ returns-3 : tie.Need-returns-3 Inv-loop μ-loop
 returns-3 c =
     let other = c .before .before in
     let turn = other .before .before .before in
-    read-wrong (turn .before .loop .inv) (turn .loop-test .taken)
-    (sym (other .before .digit-fits .ensures) ∙ other .if2 .left)
-    (sym (c .before .end-fits .ensures) ∙ c .if3 .left)
+    read-wrong (turn .before .loop .inv) (turn .loop-test .taken) (other .before .digit-fits .ensures) (other .if2 .left)
+    (c .before .end-fits .ensures) (c .if3 .left)
 
 returns-4 : tie.Need-returns-4 Inv-loop μ-loop
 returns-4 c = read-out (c .before .loop .inv) (c .loop-test .left)

@@ -21,7 +21,7 @@ use denote.RattleType.{owns}
 use denote.Ref.{RefT}
 use denote.Slice.{slice-vals}
 use Rattle.lines.specs.declared.lines.Lines.{Lines}
-use Rattle.lines.proofs.Functions.Walks.{Text, Reader, Token, local, gives-up, text, Passed, Returned, Walk}
+use Rattle.lines.proofs.Functions.Walks.{Text, Reader, Token, local, frees-local, text, Passed, Returned, Walk}
 use Rattle.lines.proofs.Functions.Walks.{ends, meets, made}
 use Rattle.lines.proofs.lines.Lines.Laws.{lowered}
 use Rattle.lines.proofs.lines.Lines.new.{clauses}
@@ -48,7 +48,7 @@ module _ {M : Type 1} (𝓤 : URA M) (H : Heap 𝓤) (A : Atoms 𝓤) (W : Given
       -- [_1; …; room for _0; …; what is passed]
       assigns ! (agg ! (and-then ! (local ! 0 refl) (and-then ! (lit ! tt) (no-more !))))
       (from ! (stop !)) (init ! 2 refl (tt, (typed .0 .1, (record { fits = lit< tt }, tt)))) $
-      returns ! (look ! 2 refl) $ move ! (2 ∷ 3 ∷ []) $ gives-up ! $ gives-up ! $ free0 ! $ by ! exits))
+      returns ! (look ! 2 refl) $ move ! (2 ∷ 3 ∷ []) $ frees-local ! $ frees-local ! $ free0 ! $ by ! exits))
 
 pub new-spec : {M : Type 1} → statement M
 unfolding code.routine

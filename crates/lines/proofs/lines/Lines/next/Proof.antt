@@ -31,7 +31,7 @@ use denote.Triple.Statement.{Triple}
 use denote.Triple.Table.{framed, cited}
 use Rattle.lines.specs.Reading.{nextAt}
 use Rattle.lines.specs.declared.lines.Lines.{Lines}
-use Rattle.lines.proofs.Functions.Walks.{Text, Reader, next-line-claim, Token, contractOf, local, gives-up, calls}
+use Rattle.lines.proofs.Functions.Walks.{Text, Reader, next-line-claim, Token, contractOf, local, frees-local, calls}
 use Rattle.lines.proofs.Functions.Walks.{reader, Passed, Returned, Walk, ends, meets, parts, part-vals, PassedOn}
 use Rattle.lines.proofs.Functions.Walks.{taken-apart, made}
 use Rattle.lines.proofs.lines.Lines.Laws.{lowered}
@@ -91,7 +91,7 @@ module _ {M : Type 1} (𝓤 : URA M) (H : Heap 𝓤) (A : Atoms 𝓤) (W : Given
       assigns ! (agg ! (and-then ! (local ! 3 refl) (and-then ! (local ! 9 refl) (no-more !))))
       (from ! (stop !)) (init ! 13 refl (tt, (typed .0 .1 .0, (record { fits = is .1 }, tt)))) $
       returns ! (look ! 13 refl) $ move ! (13 ∷ 14 ∷ 11 ∷ 12 ∷ 9 ∷ 10 ∷ 7 ∷ 8 ∷ 5 ∷ 6 ∷ 3 ∷ 4 ∷ []) $
-      gives-up ! $ gives-up ! $ gives-up ! $ gives-up ! $ gives-up ! $ gives-up ! $ free0 ! $
+      frees-local ! $ frees-local ! $ frees-local ! $ frees-local ! $ frees-local ! $ frees-local ! $ free0 ! $
       -- [what the number owns; the token; what is kept]
       drop ! $ by ! (exits n (is .1) holds))))))))
 

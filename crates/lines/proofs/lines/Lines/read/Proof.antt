@@ -19,7 +19,7 @@ use types.Run.{params1, pass1, pass0, free0}
 use denote.Triple.Statement.{Triple}
 use denote.Triple.Table.{framed, cited}
 use Rattle.lines.specs.declared.lines.Lines.{Lines}
-use Rattle.lines.proofs.Functions.Walks.{read-line-claim, contractOf, local, gives-up, calls, reader, Passed, Walk}
+use Rattle.lines.proofs.Functions.Walks.{read-line-claim, contractOf, local, frees-local, calls, reader, Passed, Walk}
 use Rattle.lines.proofs.Functions.Walks.{ends, meets, parts, part-vals, line-typed, PassedOn, taken-apart}
 use Rattle.lines.proofs.lines.Lines.Laws.{lowered}
 use Rattle.lines.proofs.reading.read_line.Symbol as read-line
@@ -50,7 +50,7 @@ module _ {M : Type 1} (𝓤 : URA M) (H : Heap 𝓤) (A : Atoms 𝓤) (W : Given
       -- [what the result owns; the token; _3; …; _2; …; _1; …; room for _0; …]
       land ! (from ! (stop !)) (init ! 8 refl (line-typed 𝓤 H A W r v is .0)) $
       returns ! (look ! 8 refl) $ move ! (8 ∷ 9 ∷ 6 ∷ 7 ∷ 4 ∷ 5 ∷ 2 ∷ 3 ∷ []) $
-      gives-up ! $ gives-up ! $ gives-up ! $ gives-up ! $ free0 ! $
+      frees-local ! $ frees-local ! $ frees-local ! $ frees-local ! $ free0 ! $
       by ! (ends 𝓤 H A reader κ q d (clauses 𝓤 H A mem run) tt W v r (factI 𝓤 _ (emp 𝓤) holds)))))))
 
 pub read-spec : {M : Type 1} → statement M

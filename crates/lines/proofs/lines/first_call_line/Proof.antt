@@ -1,4 +1,4 @@
--- `first_call` meets its contract: a walk of its MIR, by hand. The reader that `new` returns is held in a local and passed
+-- `first_call_line` meets its contract: a walk of its MIR, by hand. The reader that `new` returns is held in a local and passed
 -- to `next`, and the one that `next` returns to `read`. All that the proof knows of the three is that each meets its
 -- contract. Assumes nothing.
 use mathlib.Core.Path.{_≡_, refl, ap₂, _∙_}
@@ -25,17 +25,17 @@ use denote.Triple.Table.{framed, cited}
 use Rattle.lines.specs.Reading.{Line, readBy, lineAt, nextAt}
 use Rattle.lines.specs.declared.lines.Lines.{Lines}
 use Rattle.lines.proofs.Functions.Walks.{Reader, new-claim, next-claim, read-claim, Token, Entry, contractOf, local}
-use Rattle.lines.proofs.Functions.Walks.{gives-up, calls, text, Passed, Walk, ends, meets, line-typed, held-typed}
+use Rattle.lines.proofs.Functions.Walks.{frees-local, calls, text, Passed, Walk, ends, meets, line-typed, held-typed}
 use Rattle.lines.proofs.lines.Lines.new.Symbol as new
 use Rattle.lines.proofs.lines.Lines.new.Met as new-met
 use Rattle.lines.proofs.lines.Lines.next.Symbol as next
 use Rattle.lines.proofs.lines.Lines.next.Met as next-met
 use Rattle.lines.proofs.lines.Lines.read.Symbol as read
 use Rattle.lines.proofs.lines.Lines.read.Met as read-met
-use Rattle.lines.proofs.lines.first_call.{clauses}
-use Rattle.lines.proofs.lines.first_call.Key.{name}
-use Rattle.lines.proofs.lines.first_call.Statement.{statement}
-use Rattle.lines.proofs.lines.first_call.Code as code
+use Rattle.lines.proofs.lines.first_call_line.{clauses}
+use Rattle.lines.proofs.lines.first_call_line.Key.{name}
+use Rattle.lines.proofs.lines.first_call_line.Statement.{statement}
+use Rattle.lines.proofs.lines.first_call_line.Code as code
 
 -- what the three contracts say together
 first-read : (s : RefT (List ℕ)) (d e : Lines) (r : Line) → (d .text ≡ s) × (d .at ≡ 0)
@@ -82,13 +82,13 @@ module _ {M : Type 1} (𝓤 : URA M) (H : Heap 𝓤) (A : Atoms 𝓤) (W : Given
       -- [what the result owns; the token; _3; …; _2; …; _1; …; room for _0; …]
       land ! (from ! (stop !)) (init ! 8 refl (line-typed 𝓤 H A W r w is-r .0)) $
       returns ! (look ! 8 refl) $ move ! (8 ∷ 9 ∷ 6 ∷ 7 ∷ 4 ∷ 5 ∷ 2 ∷ 3 ∷ []) $
-      gives-up ! $ gives-up ! $ gives-up ! $ gives-up ! $ free0 ! $
+      frees-local ! $ frees-local ! $ frees-local ! $ frees-local ! $ free0 ! $
       by ! (ends 𝓤 H A text κ q s (clauses 𝓤 H A mem run) tt W w r
       (factI 𝓤 _ (emp 𝓤) (first-read s d e r made moved reads))))))))))
 
-pub first-call-spec : {M : Type 1} → statement M
+pub first-call-line-spec : {M : Type 1} → statement M
 unfolding code.routine
-first-call-spec 𝓤 H 𝓜 𝓖 𝓡 =
+first-call-line-spec 𝓤 H 𝓜 𝓖 𝓡 =
     meets 𝓤 H 𝓜 𝓖 𝓡 text (clauses 𝓤 H (𝓖 .A) (𝓜 .mem) (𝓡 .run)) code.env name code.function (code.unfolded 𝓤 H 𝓜 𝓡)
     (λ κ q s g. walk 𝓤 H (𝓖 .A) (givenOf 𝓤 H 𝓜 𝓖) (𝓜 .mem) (𝓡 .run) κ q s _ _ (framed 𝓤 H 𝓜 (tables 𝓤 H 𝓜 𝓡 code.env))
     (cited 𝓤 H (contractOf 𝓤 H (𝓖 .A) new-claim) 𝓜 𝓡 code.env new.name new.routine
