@@ -1,5 +1,5 @@
-// Examples by running: document 01's own, the field engineers' checks, every refusal, and document 002's Annex II. The
-// stored output beside src/ is what they must write.
+// Examples by running: document 01's own, wrong lines, the field engineers' checks, every refusal, and document 002's Annex
+// II. The stored output beside src/ is what they must write.
 mod text; // what is written
 mod files; // document 01's example, and wrong lines
 mod checks; // the field engineers' six checks

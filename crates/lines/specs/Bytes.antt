@@ -9,11 +9,11 @@ abbrev pub bytes : String → List ℕ
 bytes nothing = []
 bytes (c then s) = code c ∷ bytes s
 
--- the byte 0, whose successors are the other digits
+-- the digit 0; the other digits are the bytes after it
 abbrev pub zeroDigit : ℕ
 zeroDigit = code "0"
 
--- the byte 9, the last of them
+-- the digit 9, the last of them
 abbrev pub nineDigit : ℕ
 nineDigit = code "9"
 

@@ -122,7 +122,7 @@ LinesHold =
 abbrev pub LastHolds : Type 0
 LastHolds = linesOf (textOf ("6,0,0,0,0,0,0\n" ∷ "6,0" ∷ [])) ≡ close ∷ wrongAt 3 ∷ []
 
--- behind the text's end there is no line, and reading goes on nowhere
+-- at the text's end and behind it there is no line, and the next one is said to start at the same place
 abbrev pub EndHolds : Type 0
 EndHolds = (lineAt (bytes "6,0\n") 4 ≡ noLine) × (lineAt (bytes "6,0\n") 9 ≡ noLine) × (nextAt (bytes "6,0\n") 9 ≡ 9)
 

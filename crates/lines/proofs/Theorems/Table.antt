@@ -1,4 +1,4 @@
--- What the grammar asks of the table of fields and ranges. Nothing else depends on how many columns and calls there are.
+-- What the grammar asks of the table of fields and ranges. No other theorem depends on how many columns and calls there are.
 -- Assumes nothing.
 use Prim.Native.Nat.{ℕ, zero, suc, _+_, _≤_, _<_}
 use native.Mathlib.Omega.{arith}
