@@ -3,7 +3,8 @@
 use Prim.Native.Nat.{ℕ, zero, suc, _+_, _*_, _≤_, _<_}
 use mathlib.Core.Path.{_≡_}
 use mathlib.Core.List.{List}
-use Rattle.book.specs.Limits.{dayLimit, categoryCount, largestStored}
+use Rattle.book.specs.Limits.{dayLimit, categoryCount}
+use Rattle.book.specs.Sums.{largestStored}
 use Rattle.book.specs.Answers.{Call}
 use Rattle.book.specs.Calls.{Book}
 use Rattle.book.specs.Rows.{cellOf, rowOf}

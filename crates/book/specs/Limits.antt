@@ -24,7 +24,3 @@ largestId = 65535
 -- in euro cents, of one SI
 abbrev pub largestAmount : ℕ
 largestAmount = 10000000000
-
--- the largest number of 64 bits
-abbrev pub largestStored : ℕ
-largestStored = 18446744073709551615

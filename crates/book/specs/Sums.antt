@@ -1,9 +1,9 @@
 -- Sums and tests that every definition of the book uses. Assumes nothing.
-use Prim.Native.Nat.{ℕ, zero, _+_, min}
+use Prim.Native.Nat.{ℕ, zero, _+_}
 use mathlib.Core.Bool.{Bool, true, false, _&&_}
 use mathlib.Core.List.{List, [], _∷_}
 use lib.Dec.{leb}
-use Rattle.book.specs.Limits.{largestStored}
+pub use Rattle.rates.specs.Stored.{largestStored, capped}
 
 -- n where the test passes, and 0 where it fails
 abbrev pub only : Bool → ℕ → ℕ
@@ -13,10 +13,6 @@ only false n = zero
 -- from the lowest to the highest, both included
 abbrev pub within : ℕ → ℕ → ℕ → Bool
 within low high n = leb low n && leb n high
-
--- a sum as the book stores it: it stops at the largest number of 64 bits
-abbrev pub capped : ℕ → ℕ
-capped n = min n largestStored
 
 module _ {A : Type 0} where
   -- the sum of a weight over a list

@@ -16,7 +16,7 @@ pub enum Call {
     Close,
 }
 
-// Why a call, a row or a report is refused, in the order of document 01's numbers 1 to 9.
+// Why a call, a row, a report or a row as text is refused, in the order of document 01's numbers 1 to 9 and 11.
 pub enum Refusal {
     Finished,
     OutOfRange,
@@ -27,6 +27,7 @@ pub enum Refusal {
     OnHold,
     WrongPart,
     NotClosed,
+    ShortBuffer,
 }
 
 // What comes back from one of the six calls.
@@ -50,6 +51,7 @@ impl Refusal {
             Refusal::OnHold => 7,
             Refusal::WrongPart => 8,
             Refusal::NotClosed => 9,
+            Refusal::ShortBuffer => 11,
         }
     }
 }

@@ -1,14 +1,14 @@
 // The figures of a day and category, what a call adds to them, and where they lie. Document 01, 'The six calls' and
 // 'A row'.
 ghost use mathlib.Core.Path.{_≡_};
-ghost use Prim.Native.Nat.{_+_, _-_, _*_, min};
+ghost use Prim.Native.Nat.{_-_, _*_, min};
 ghost use Rattle.book.specs.Sums.{only, capped};
 ghost use Rattle.book.specs.Figures.{nothing, none, partFigures, failFigures, addFigure, addCell};
 ghost use Rattle.book.specs.Placed.{Placed};
 use crate::limits::CATEGORIES;
 use crate::limits::DAYS;
-use crate::limits::LARGEST;
 use crate::sides::Sides;
+use rates::stored::capped_sum;
 
 // So many SIs, and their value.
 pub struct Figure {
@@ -27,13 +27,6 @@ pub struct Cell {
     pub securities: Figure,
     pub cash: Figure,
     pub isd_value: u64,
-}
-
-// A sum as the book stores it.
-pub fn capped_sum(a: u64, b: u64) -> u64
-    ensures { λ r. ⌜ r ≡ capped (a + b) ⌝ }
-{
-    if a <= LARGEST - b { a + b } else { LARGEST }
 }
 
 // The value of two SIs, each worth `value`.

@@ -20,6 +20,3 @@ pub const LARGEST_ID: u64 = 65535;
 
 // In euro cents, of one SI.
 pub const LARGEST_AMOUNT: u64 = 10000000000;
-
-// The largest number of 64 bits, where a sum stops.
-pub const LARGEST: u64 = 18446744073709551615;

@@ -25,7 +25,7 @@ pub enum RowAnswer {
 
 impl Cell {
     // Total is the sum of settled, securities fails and cash fails.
-    fn row(self) -> Row
+    pub fn row(self) -> Row
         ensures { λ r. ⌜ r ≡ rowFrom self ⌝ }
     {
         let settled = self.settled;

@@ -3,12 +3,13 @@
 use Prim.Native.Nat.{ℕ}
 use mathlib.Core.Path.{_≡_, refl}
 use mathlib.Core.List.{List, [], _∷_, map}
-use Rattle.rates.specs.Rate.{Duration, rate, duration}
+use mathlib.Core.Option.{Option, none, some}
+use Rattle.rates.specs.Rate.{rate, duration}
 
 -- a rate or a duration asked for, and what comes out
 pub data Example : Type 0 where
   rateOf : ℕ → ℕ → ℕ → Example
-  durationOf : ℕ → ℕ → Duration → Example
+  durationOf : ℕ → ℕ → Option ℕ → Example
 
 -- the same with what the definition gives
 abbrev pub computed : Example → Example
@@ -28,8 +29,8 @@ examples =
     -- the report over the table's days 0 to 3
     ∷ rateOf 10 18 5556
     ∷ rateOf 38000 66000 5758
-    ∷ durationOf 38000 18000 (Duration.Hundredths 211)
-    ∷ durationOf 38000 0 Duration.Absent
+    ∷ durationOf 38000 18000 (some 211)
+    ∷ durationOf 38000 0 none
     ∷ []
 
 -- The definition gives each of them.

@@ -1,6 +1,7 @@
 -- The fail rate and the average duration. Document 01, 'A report'. Assumes nothing.
 use Prim.Native.Nat.{ℕ, _+_, _*_, _/_}
 use mathlib.Core.Bool.{cond}
+use mathlib.Core.Option.{Option, none, some}
 use lib.Dec.{eqb}
 pub use Rattle.rates.specs.declared.Duration.{Duration}
 
@@ -14,6 +15,10 @@ rate fails total = cond (eqb total 0) 0 (halfUp (fails * 10000) total)
 
 -- The duration is the sum of fail values divided by the sum of ISD values, in hundredths of a day, half up, and absent
 -- if the divisor is 0.
-unfoldable pub duration : ℕ → ℕ → Duration
-duration failValues isdValues =
-    cond (eqb isdValues 0) Duration.Absent (Duration.Hundredths (halfUp (failValues * 100) isdValues))
+unfoldable pub duration : ℕ → ℕ → Option ℕ
+duration failValues isdValues = cond (eqb isdValues 0) none (some (halfUp (failValues * 100) isdValues))
+
+-- the hundredths of a day that a duration stands for
+abbrev pub hundredthsOf : Duration → Option ℕ
+hundredthsOf Duration.Absent = none
+hundredthsOf (Duration.Hundredths n) = some n
