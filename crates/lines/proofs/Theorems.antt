@@ -12,5 +12,6 @@ pub mod Names
 pub mod Texts
 pub mod Ends
 pub mod RoundTrip
--- bytes put into a buffer
+-- bytes put into a buffer, and numbers put there as a line
 pub mod Buffers
+pub mod Joined

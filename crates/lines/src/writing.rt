@@ -1,6 +1,10 @@
 // Numbers as decimal text into a lent buffer, as far as it goes.
+ghost use mathlib.Core.Path.{_≡_};
+ghost use mathlib.Core.Bool.{cond};
 ghost use mathlib.Core.List.{[], _∷_};
+ghost use Rattle.lines.specs.Bytes.{comma, lineFeed};
 ghost use Rattle.lines.specs.Decimal.{decimal};
+ghost use Rattle.lines.specs.Grammar.{joined};
 ghost use Rattle.lines.specs.Writing.{Put};
 
 // Puts a byte at a place, and answers the place behind it; where there is no such place, nothing is put, and the answer is
@@ -25,4 +29,26 @@ pub fn put_number(buffer: &mut [u8], at: usize, number: u64) -> usize
     }
     let end = put_number(buffer, at, number / 10);
     put_byte(buffer, end, b'0' + (number % 10) as u8)
+}
+
+// What stands behind a field: a comma where more fields follow, LF behind the last one.
+fn separator(more: bool) -> u8
+    ensures { λ r. ⌜ r ≡ cond more comma lineFeed ⌝ }
+{
+    if more { b',' } else { b'\n' }
+}
+
+// Puts numbers as a line at a place, as far as the buffer goes, and answers the place behind it.
+pub fn put_line(buffer: &mut [u8], at: usize, fields: &[u64]) -> usize
+    ensures { λ r. ⌜ Put (now (buffer .entry)) at (joined (now (fields .entry))) r (now (buffer .exit)) ⌝ }
+{
+    let mut end = if at < buffer.len() { at } else { buffer.len() };
+    let mut i: usize = 0;
+    while i < fields.len() {
+        let number = fields[i];
+        let behind = put_number(buffer, end, number);
+        i += 1;
+        end = put_byte(buffer, behind, separator(i < fields.len()));
+    }
+    end
 }

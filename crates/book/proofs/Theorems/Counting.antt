@@ -145,7 +145,8 @@ unfolding given
 rows-lives calls figure d category l nine = row-lives calls figure d l category nine
 
 -- numbers that are equal from `first` on have equal sums
-sum-same : (f g : ℕ → ℕ) (first n : ℕ) → ((c : ℕ) → first ≤ c → c < first + n → f c ≡ g c) → sumFrom f first n ≡ sumFrom g first n
+pub sum-same : (f g : ℕ → ℕ) (first n : ℕ) → ((c : ℕ) → first ≤ c → c < first + n → f c ≡ g c)
+    → sumFrom f first n ≡ sumFrom g first n
 sum-same f g first zero same = refl
 sum-same f g first (suc n) same =
     let a = same first (omega arith) (omega arith) in

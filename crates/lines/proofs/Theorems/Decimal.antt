@@ -100,6 +100,12 @@ power-order i j h =
     let above : j < i → ⊥ = λ s. let power : 10 ^ suc j ≤ 10 ^ i = pow-le-pow-right (omega arith) s in omega arith in
     omega arith
 
+-- a number below a power of 10 has at most as many digits as the exponent says, where that is not 0
+pub digits-most : (n k : ℕ) → n < 10 ^ suc k → length (decimal n) ≤ suc k
+digits-most n k h =
+    by-ten n (λ s. let one = length-one n s in omega arith)
+    (λ s. let power = above-power n (omega arith) in power-order (length (decimal n)) (suc k) (omega arith))
+
 -- 11 digits hold the numbers up to the largest field, and no others
 pub short-most : (n : ℕ) → Short n → n ≤ largestField
 short-most n h =
@@ -108,9 +114,7 @@ short-most n h =
     omega arith
 
 pub most-short : (n : ℕ) → n ≤ largestField → Short n
-most-short n h =
-    by-ten n (λ s. let one = length-one n s in omega arith)
-    (λ s. let power = above-power n (omega arith) in power-order (length (decimal n)) digitLimit (omega arith))
+most-short n h = digits-most n 10 (omega arith)
 
 -- ---- the one text that stands for a number
 

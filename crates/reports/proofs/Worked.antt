@@ -1,0 +1,27 @@
+-- The worked reports and lines hold, by computation. Assumes nothing.
+use mathlib.Core.Path.{refl}
+use Rattle.rates.specs.Rate.{rate, duration}
+use Rattle.book.specs.Figures.{lateFrom, failPosting, failPostings, place, post}
+use Rattle.book.specs.Answers.{answer}
+use Rattle.book.specs.Calls.{places, firstPlace, viewOf, postings, pairsAfter, afterAccepted, after, freshBook}
+use Rattle.book.specs.Rows.{cellOf, rowAnswer}
+use Rattle.book.specs.Balance.{step, run, afterCalls}
+use Rattle.book.specs.Edges.{example}
+use Rattle.lines.specs.Decimal.{digits, decimal}
+use Rattle.lines.specs.Grammar.{behind, joined}
+use Rattle.reports.specs.Reports.{sumsOf, reportFrom, reportAnswer}
+use Rattle.reports.specs.Nine.{nineAnswer}
+use Rattle.reports.specs.RowText.{rowText}
+use Rattle.reports.specs.Worked.{WorkedHold}
+
+pub worked : WorkedHold
+unfolding rate duration lateFrom failPosting failPostings place post answer places firstPlace viewOf postings pairsAfter
+    afterAccepted after freshBook cellOf rowAnswer step run afterCalls example digits decimal behind joined sumsOf reportFrom reportAnswer
+    nineAnswer rowText
+worked = record {
+  reports = refl;
+  nine = refl;
+  refusedNine = refl;
+  texts = refl;
+  cutOff = refl;
+}

@@ -1,0 +1,7 @@
+pub mod Reports
+pub mod Nine
+pub mod RowText
+pub mod OfRows
+pub mod Plain
+pub mod Worked
+pub mod CellSums
