@@ -1,4 +1,5 @@
 // Call files: each line is read, and its call made. Document 01, 'The calls as text'.
+use crate::reporting::of_example;
 use crate::text::say;
 use crate::text::say_number;
 use crate::text::say_row;
@@ -9,7 +10,7 @@ use lines::reading::Line;
 use lines::reading::next_line;
 use lines::reading::read_line;
 
-// The example of document 01: ten calls, and the rows of four days.
+// The example of document 01: ten calls, the rows of four days, and their reports.
 pub fn example() {
     say(b"Document 01's example\n");
     let book = make_all(
@@ -29,6 +30,7 @@ pub fn example() {
     say_row(book, 1, 0);
     say_row(book, 2, 0);
     say_row(book, 3, 0);
+    of_example(book);
 }
 
 // Wrong lines between correct ones, and a last line without its LF.

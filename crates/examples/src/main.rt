@@ -1,15 +1,19 @@
-// Examples by running: document 01's own, wrong lines, the field engineers' checks, every refusal, and document 002's Annex
-// II. The stored output beside src/ is what they must write.
+// Examples by running: document 01's own, wrong lines, reports, the field engineers' checks, every refusal, and document
+// 002's paragraphs and annexes. The stored output beside src/ is what they must write.
 mod text; // what is written
+mod reporting; // reports, and rates of large numbers
 mod files; // document 01's example, and wrong lines
 mod checks; // the field engineers' six checks
-mod refusals; // the numbers 1 to 9
-mod annex; // Annex II
+mod refusals; // the numbers 1 to 9 and 11
+mod guidelines; // 002's paragraphs 27, 29 and 31, and Annex III
+mod annex; // 002's Annex II
 
 fn main() {
     text::say_columns();
+    reporting::say_columns();
     files::example();
     files::wrong_lines();
+    reporting::of_numbers();
     checks::place_comes_free();
     checks::sent_twice();
     checks::three_days_late();
@@ -19,5 +23,10 @@ fn main() {
     checks::refused_id();
     refusals::numbers();
     refusals::finished();
+    refusals::short_buffer();
+    guidelines::number_of_instructions();
+    guidelines::partial_settlement();
+    guidelines::late_matching();
+    guidelines::average_duration();
     annex::examples();
 }

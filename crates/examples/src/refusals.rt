@@ -1,10 +1,14 @@
-// Each of the numbers 1 to 9, once with its condition, and the same call accepted without it.
+// Each of the numbers 1 to 9 and 11, once with its condition, and the same call accepted without it.
 use crate::checks::enter;
 use crate::text::make;
 use crate::text::say;
+use crate::text::say_number;
+use crate::text::say_refusal;
 use crate::text::say_row;
 use book::book::Book;
 use book::calls::Call;
+use reports::text::TextAnswer;
+use reports::text::row_text;
 
 pub fn numbers() {
     say(b"\nThe numbers 2, 3, 5, 6, 7, 8 and 9\n");
@@ -53,4 +57,32 @@ pub fn finished() {
     let book = make(book, b"1, close", Call::Close);
     let book = make(book, b"1, settle 100 of 1", Call::Settle(1, 100));
     say_row(book, 63, 0);
+}
+
+// The row of day 0 as text into a lent buffer, what comes back, and the buffer then.
+fn say_buffer(book: Book, buffer: &mut [u8]) {
+    let answer = row_text(book, 0, 0, buffer);
+    match answer {
+        TextAnswer::Written(count) => {
+            say_number(count as u64);
+            say(b" bytes are written\n");
+        }
+        TextAnswer::Refused(refusal) => {
+            say(b"the row");
+            say_refusal(refusal);
+        }
+    }
+    say(buffer);
+    say(b"\n");
+}
+
+pub fn short_buffer() {
+    say(b"\nThe number 11, for a row as text into 127 bytes, and then into 128\n");
+    let book = Book::fresh();
+    let book = make(book, b"   enter 1", enter(1, 0, 100));
+    let book = make(book, b"   close", Call::Close);
+    let mut short = [b'.'; 127];
+    say_buffer(book, &mut short);
+    let mut enough = [b'.'; 128];
+    say_buffer(book, &mut enough);
 }

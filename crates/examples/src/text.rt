@@ -1,8 +1,10 @@
 // What the examples write: a line for each call with the number that comes back, and a line for each row.
 use book::book::Book;
 use book::calls::Call;
-use book::rows::Row;
-use book::rows::RowAnswer;
+use book::calls::Refusal;
+use reports::text::ROOM;
+use reports::text::TextAnswer;
+use reports::text::row_text;
 
 // Bytes on standard output.
 pub fn say(text: &[u8]) {
@@ -30,38 +32,25 @@ pub fn say_row(book: Book, day: u64, category: u64) {
     say(b"row of category ");
     say_number(category);
     say(b": ");
-    say_number(day);
-    let answer = book.row(day, category);
+    let mut buffer = [0; ROOM];
+    let answer = row_text(book, day, category, &mut buffer);
     match answer {
-        RowAnswer::Figures(row) => say_figures(row),
-        RowAnswer::Refused(refusal) => {
-            say(b" is refused by ");
-            say_number(refusal.number());
+        TextAnswer::Written(count) => say(&buffer[0..count]),
+        TextAnswer::Refused(refusal) => {
+            say_number(day);
+            say_refusal(refusal);
         }
     }
-    say(b"\n");
 }
 
 // The names of a row's columns.
 pub fn say_columns() {
-    say(b"A row is day,total_n,settled_n,sec_n,cash_n,total_v,settled_v,sec_v,cash_v,isd_v\n\n");
+    say(b"A row is day,total_n,settled_n,sec_n,cash_n,total_v,settled_v,sec_v,cash_v,isd_v\n");
 }
 
-// Each column after the day.
-fn say_figures(row: Row) {
-    say_column(row.total.number);
-    say_column(row.settled.number);
-    say_column(row.securities.number);
-    say_column(row.cash.number);
-    say_column(row.total.value);
-    say_column(row.settled.value);
-    say_column(row.securities.value);
-    say_column(row.cash.value);
-    say_column(row.isd_value);
-}
-
-// A column after another.
-fn say_column(n: u64) {
-    say(b",");
-    say_number(n);
+// The number that comes back.
+pub fn say_refusal(refusal: Refusal) {
+    say(b" is refused by ");
+    say_number(refusal.number());
+    say(b"\n");
 }

@@ -1,3 +1,3 @@
 pub mod Theorems
 pub mod AnswerValues
-pub mod Worked
+pub mod Examples

@@ -3,5 +3,5 @@ pub mod Nine
 pub mod RowText
 pub mod OfRows
 pub mod Plain
-pub mod Worked
+pub mod Examples
 pub mod CellSums

@@ -1,5 +1,6 @@
 -- For every list of calls the bytes written of a row are its whole line: no total passes the most of a row, so each figure
--- has so few digits that the line fits into the shortest buffer taken. Assumes nothing.
+-- has so few digits that the line fits into the shortest buffer taken. On any book their count is no more than the buffer
+-- has. Assumes nothing.
 use Prim.Native.Nat.{ℕ, suc, _+_, _≤_, _<_, min, suc-le-suc}
 use native.Mathlib.Nat.{zero-add}
 use native.Mathlib.Omega.{arith}
@@ -8,7 +9,7 @@ use mathlib.Core.Bool.{Bool, true, false}
 use mathlib.Core.List.{List, [], _∷_}
 use lib.Dec.{leb, ltb}
 use lib.ListN.{length}
-use lib.Seq.{sets-eq}
+use lib.Seq.{sets-eq, length-sets}
 use borrow.Author.Tests.{leb-true, ltb-true, ltb-false}
 use Rattle.book.specs.declared.calls.Call.{Call}
 use Rattle.book.specs.declared.book.Book.{Book}
@@ -24,10 +25,12 @@ use Rattle.lines.specs.Decimal.{decimal}
 use Rattle.lines.proofs.Theorems.Decimal.{digits-most}
 use Rattle.lines.proofs.Theorems.Joined.{joined-length}
 use Rattle.reports.specs.RowText.{
+  TextAnswer,
   rowLine,
   textRoom,
   refused,
   written,
+  textBy,
   withLine,
   rowText,
   longestLine,
@@ -62,6 +65,18 @@ line-written b day category n buffer true true false s c t e = (
   ltb-false _ _ t,
   rw (s, c, t),
 )
+
+-- The count of the bytes written is no more than the buffer then has, on any book.
+pub count-most : (b : Book) (day category n : ℕ) (answer : TextAnswer) (before after : List ℕ)
+    → answer ≡ TextAnswer.Written n → textBy answer after ≡ rowText b day category before → n ≤ length after
+count-most b day category n answer before after known text =
+    let line = rowLine day (rowOf b day category) in
+    let due = sym (ap (λ (a : TextAnswer). textBy a after) known) ∙ text in
+    let w = line-written b day category n before _ _ _ refl refl refl (sym (ap (λ t. t .count) due)) in
+    let put = due ∙ w .3 in
+    let same = ap (λ t. t .count) put in
+    let count : n ≡ min (length line) (length before) = cc in
+    omega (arith, ap (λ t. length (t .buffer)) put, length-sets before 0 line)
 
 -- ---- how long a line is
 

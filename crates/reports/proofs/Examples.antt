@@ -1,4 +1,4 @@
--- The worked reports and lines hold, by computation. Assumes nothing.
+-- The reports and lines worked by hand hold, by computation. Assumes nothing.
 use mathlib.Core.Path.{refl}
 use Rattle.rates.specs.Rate.{rate, duration}
 use Rattle.book.specs.Figures.{lateFrom, failPosting, failPostings, place, post}
@@ -12,13 +12,13 @@ use Rattle.lines.specs.Grammar.{behind, joined}
 use Rattle.reports.specs.Reports.{sumsOf, reportFrom, reportAnswer}
 use Rattle.reports.specs.Nine.{nineAnswer}
 use Rattle.reports.specs.RowText.{rowText}
-use Rattle.reports.specs.Worked.{WorkedHold}
+use Rattle.reports.specs.Examples.{ExamplesHold}
 
-pub worked : WorkedHold
+pub examples-hold : ExamplesHold
 unfolding rate duration lateFrom failPosting failPostings place post answer places firstPlace viewOf postings pairsAfter
     afterAccepted after freshBook cellOf rowAnswer step run afterCalls example digits decimal behind joined sumsOf reportFrom reportAnswer
     nineAnswer rowText
-worked = record {
+examples-hold = record {
   reports = refl;
   nine = refl;
   refusedNine = refl;

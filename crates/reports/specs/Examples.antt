@@ -140,7 +140,7 @@ textGiven c = rowText exampleBook (c .day) (c .category) (c .buffer)
 -- ---- that they hold
 
 -- Each is what the definitions give.
-pub record WorkedHold : Type 0 where
+pub record ExamplesHold : Type 0 where
   pub reports : map reportGiven reportCases ≡ map (λ c. c .given) reportCases
   pub nine : nineAnswer exampleBook 0 3 ≡ nineGiven
   pub refusedNine : nineAnswer exampleBook 0 4 ≡ nineRefused
