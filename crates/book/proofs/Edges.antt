@@ -16,7 +16,7 @@ use Rattle.book.specs.Figures.{none, lateFrom, failPosting, failPostings
 use Rattle.book.specs.Answers.{Call, isFull, answer}
 use Rattle.book.specs.Calls.{Book, places, firstPlace, openCount, viewOf, answerOf, freshBook}
 use Rattle.book.specs.Calls.{postings, pairsAfter, afterAccepted, after}
-use Rattle.book.specs.Rows.{cellOf, rowAnswer}
+use Rattle.book.specs.Rows.{addedFrom, cellOf, rowAnswer}
 use Rattle.book.specs.History.{Event}
 use Rattle.book.specs.Balance.{State, step, run, afterCalls}
 use Rattle.book.specs.Edges.{entry, enterOf, enters, answersOf, example}
@@ -139,7 +139,7 @@ claimed (givesRate fails total r) h = h
 
 -- Every case of the list holds.
 pub edges : All Claim cases
-unfolding cases example computed cellOf rowAnswer rate answersOf
+unfolding cases example computed addedFrom cellOf rowAnswer rate answersOf
 edges =
     all-map Computes Claim claimed cases (
       refl,

@@ -3,6 +3,8 @@
 -- what a branch says of a test, and what a call hands back, part by part
 pub mod Tested
 pub mod Handed
+-- cells added up by a loop
+pub mod Added
 -- a search for a pair, and what an answer finds there
 pub mod Search
 pub mod Opened

@@ -1,6 +1,6 @@
 -- The theory of the book, to be read from top to bottom.
 
--- tools: sums over lists, and what it says that a call is accepted
+-- tools: sums over lists and over runs of numbers, and what it says that a call is accepted
 pub mod Sums
 pub mod Allowed
 pub mod Proper

@@ -4,7 +4,7 @@ use mathlib.Core.Path.{_≡_, refl}
 use mathlib.Core.List.{List, reverse}
 use Rattle.book.specs.Answers.{Call}
 use Rattle.book.specs.Calls.{Book}
-use Rattle.book.specs.Rows.{cellOf, rowOf}
+use Rattle.book.specs.Rows.{addedFrom, cellOf, rowOf}
 use Rattle.book.specs.History.{Measure, acceptedCalls, dayOf, closed, pairs, parts, dueOf, cancelledOf, partSettledOf}
 use Rattle.book.specs.History.{settledOn, cancelledBefore, cancelledOn, beforeCancel, beforeClose}
 use Rattle.book.specs.Balance.{afterCalls, bookAfter, acceptedOf, Balances}
@@ -39,7 +39,7 @@ worked-readings = rw worked-history
 
 -- newly due, cancelled and part-settled, the rows, and both sides of the balance
 pub worked-figures : figuresFor (bookAfter (callsOf worked)) (acceptedOf (callsOf worked)) workedFigures ≡ workedFigures
-unfolding worked workedFigures computed cellOf acceptedCalls dayOf pairs parts settledOn
+unfolding worked workedFigures computed addedFrom cellOf acceptedCalls dayOf pairs parts settledOn
     cancelledBefore cancelledOn beforeCancel beforeClose dueOf cancelledOf partSettledOf
 worked-figures = refl
 

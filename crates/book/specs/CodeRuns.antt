@@ -42,14 +42,15 @@ acceptedOfMade made = acceptedCalls (historyOf [] made)
 -- ---- rows as they are given
 
 -- the row that was given; where it was refused there are no figures, here zeros
-abbrev pub rowIn : Given → Row
+abbrev pub rowIn : Given Row → Row
 rowIn (refusedBy number) = rowFrom none
 rowIn (figures row) = row
 
 -- the answers to every row call on a book meet its contract
 abbrev pub GivesRows : Book → (ℕ → ℕ → RowAnswer) → Type 0
 GivesRows b answers =
-    (day category : ℕ) → day < dayLimit → category ≤ categoryCount → givenBy (answers day category) ≡ rowAnswer b day category
+    (day category : ℕ) → day < dayLimit → category ≤ categoryCount
+    → givenBy (answers day category) ≡ rowAnswer b day category
 
 -- the rows given
 abbrev pub rowsGiven : (ℕ → ℕ → RowAnswer) → Rows

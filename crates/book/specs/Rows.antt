@@ -10,10 +10,14 @@ use Rattle.book.specs.Calls.{Book}
 pub use Rattle.book.specs.declared.rows.Row.{Row}
 pub use Rattle.book.specs.declared.rows.RowAnswer.{RowAnswer}
 
+-- the sum of n cells, one for each number from the first on
+unfoldable pub addedFrom : (ℕ → Cell) → ℕ → ℕ → Cell
+addedFrom cell first zero = none
+addedFrom cell first (suc n) = addCell (cell first) (addedFrom cell (suc first) n)
+
 -- the sum of the cells of n categories of a day, from category c on
 abbrev pub cellsFrom : ℕ → ℕ → List Cell → ℕ → Cell
-cellsFrom zero c cells day = none
-cellsFrom (suc n) c cells day = addCell (cellAt cells day c) (cellsFrom n (suc c) cells day)
+cellsFrom n c cells day = addedFrom (cellAt cells day) c n
 
 -- category 0 is all nine together, another its own
 unfoldable pub cellOf : List Cell → ℕ → ℕ → Cell
@@ -37,12 +41,12 @@ rowOf b day category = rowFrom (cellOf (b .cells) day category)
 -- ---- what comes back
 
 -- a number and no figures, or the figures
-pub data Given : Type 0 where
-  refusedBy : ℕ → Given
-  figures : Row → Given
+pub data Given (A : Type 0) : Type 0 where
+  refusedBy : ℕ → Given A
+  figures : A → Given A
 
 -- the number or the figures that an answer stands for
-abbrev pub givenBy : RowAnswer → Given
+abbrev pub givenBy : RowAnswer → Given Row
 givenBy (RowAnswer.Figures r) = figures r
 givenBy (RowAnswer.Refused r) = refusedBy (refusalNumber r)
 
@@ -51,7 +55,7 @@ abbrev pub isClosed : Book → ℕ → Bool
 isClosed b day = ltb day (b .today) && ltb day dayLimit
 
 -- The row is given for a closed day only: category over 9 is 2, a day not closed 9.
-unfoldable pub rowAnswer : Book → ℕ → ℕ → Given
+unfoldable pub rowAnswer : Book → ℕ → ℕ → Given Row
 rowAnswer b day category =
     cond (not (leb category categoryCount)) (refusedBy 2)
     (cond (not (isClosed b day)) (refusedBy 9)

@@ -30,7 +30,7 @@ pub enum Refusal {
     ShortBuffer,
 }
 
-// What comes back from one of the six calls.
+// What comes back from one of the six calls, and beside each of nine reports.
 pub enum Answer {
     Accepted,
     Refused(Refusal),

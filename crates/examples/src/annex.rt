@@ -1,4 +1,5 @@
 // The examples of document 002, Annex II, in cents: of five pairs on a day four settle and one fails, for each reason.
+use crate::text::after;
 use crate::text::say;
 use crate::text::say_row;
 use book::book::Book;
@@ -12,12 +13,6 @@ pub enum Reason {
     DelivererHolds,
     ReceiverHolds,
     BothHold,
-}
-
-// The book after a call, whatever comes back.
-fn after(book: Book, call: Call) -> Book {
-    let outcome = book.apply(call);
-    outcome.book
 }
 
 // The pair with a reason to fail.
@@ -49,8 +44,7 @@ fn five_pairs(book: Book, day: u8, kind: u64, amount: u64) -> Book {
             }),
         );
         let part = if n < 5 { amount } else { 0 };
-        let settled = after(entered, Call::Settle(id, part));
-        next = settled;
+        next = after(entered, Call::Settle(id, part));
         n += 1;
     }
     next

@@ -1,4 +1,5 @@
 // The six checks of the field engineers (document 00), and that a refused id isn't spent.
+use crate::text::after;
 use crate::text::make;
 use crate::text::say;
 use crate::text::say_row;
@@ -8,27 +9,36 @@ use book::pairs::Entry;
 
 // An enter against payment, category 1, entered last by the deliverer.
 pub fn enter(id: u64, isd: u64, amount: u64) -> Call {
+    enter_in(1, id, isd, amount)
+}
+
+// The same in any category.
+pub fn enter_in(category: u64, id: u64, isd: u64, amount: u64) -> Call {
     Call::Enter(Entry {
         id: id,
         kind: 1,
-        category: 1,
+        category: category,
         isd: isd,
         side: 1,
         amount: amount,
     })
 }
 
+// So many pairs of 100 cents that are due on a day, with the ids behind those of `before` pairs. The counts are `u16`, so
+// that no id can overflow 64 bits.
+pub fn enter_pairs(book: Book, day: u64, before: u16, count: u16) -> Book {
+    let mut next = book;
+    let mut n: u16 = 0;
+    while n < count {
+        next = after(next, enter(before as u64 + n as u64 + 1, day, 100));
+        n += 1;
+    }
+    next
+}
+
 // A book with 1,024 open pairs, ids 1 to 1,024, of 100 cents each.
 fn full() -> Book {
-    let mut book = Book::fresh();
-    let mut id: u64 = 1;
-    while id <= 1024 {
-        let outcome = book.apply(enter(id, 0, 100));
-        let next = outcome.book;
-        book = next;
-        id += 1;
-    }
-    book
+    enter_pairs(Book::fresh(), 0, 0, 1024)
 }
 
 pub fn place_comes_free() {

@@ -1,5 +1,5 @@
 // Call files: each line is read, and its call made. Document 01, 'The calls as text'.
-use crate::reporting::of_example;
+use crate::reporting::example_reports;
 use crate::text::say;
 use crate::text::say_number;
 use crate::text::say_row;
@@ -30,7 +30,7 @@ pub fn example() {
     say_row(book, 1, 0);
     say_row(book, 2, 0);
     say_row(book, 3, 0);
-    of_example(book);
+    example_reports(book);
 }
 
 // Wrong lines between correct ones, and a last line without its LF.
@@ -73,8 +73,7 @@ fn make_all(text: &[u8]) -> Book {
     }
     let mut at = next_line(text, 0);
     while at < text.len() {
-        let next = make_line(book, read_line(text, at));
-        book = next;
+        book = make_line(book, read_line(text, at));
         let end = next_line(text, at);
         say(&text[at..end]);
         at = end;

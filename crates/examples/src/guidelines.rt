@@ -1,51 +1,46 @@
 // The examples of document 002, paragraphs 27, 29 and 31 and Annex III, in cents. Each SI of theirs is a pair here, so that
 // numbers and values are twice theirs; the rates and the duration are the same.
 use crate::checks::enter;
+use crate::checks::enter_pairs;
 use crate::reporting::say_report;
+use crate::text::after;
 use crate::text::make;
 use crate::text::say;
 use crate::text::say_row;
 use book::book::Book;
 use book::calls::Call;
 
-// Pairs of 100 cents that are due on a day, with the ids behind those of `before` pairs.
-fn enter_pairs(book: Book, day: u64, before: u16, count: u16) -> Book {
-    let mut next = book;
-    let mut n: u16 = 0;
-    while n < count {
-        let outcome = next.apply(enter(before as u64 + n as u64 + 1, day, 100));
-        let entered = outcome.book;
-        next = entered;
-        n += 1;
-    }
-    next
-}
-
-// So many pairs settled in full, the oldest first.
+// So many pairs of `enter_pairs` settled in full, oldest first, with the ids behind those of `before` pairs. The counts are
+// `u16` here too, so that no id can overflow 64 bits.
 fn settle_pairs(book: Book, before: u16, count: u16) -> Book {
     let mut next = book;
     let mut n: u16 = 0;
     while n < count {
-        let outcome = next.apply(Call::Settle(before as u64 + n as u64 + 1, 100));
-        let settled = outcome.book;
-        next = settled;
+        next = after(next, Call::Settle(before as u64 + n as u64 + 1, 100));
         n += 1;
     }
     next
 }
 
-// A day on which so many pairs are entered and so many settle, behind those before it, and its report.
-fn one_day(book: Book, day: u64, entered: u16, entering: u16, settled: u16, settling: u16) -> Book {
-    let book = enter_pairs(book, day, entered, entering);
-    let book = settle_pairs(book, settled, settling);
-    let outcome = book.close();
-    say_report(outcome.book, day, day, 0);
-    outcome.book
+// A day on which so many pairs are entered and so many settle, behind those of the days before, and its report.
+fn one_day(
+    book: Book,
+    day: u64,
+    entered_before: u16,
+    entered: u16,
+    settled_before: u16,
+    settled: u16,
+) -> Book {
+    let book = enter_pairs(book, day, entered_before, entered);
+    let book = settle_pairs(book, settled_before, settled);
+    let book = after(book, Call::Close);
+    say_report(book, day, day, 0);
+    book
 }
 
 // Settled 3, 2, 5 and 4, failed 1, 2, 3 and 1: 25%, 50%, 37.50% (where the paper has 35.50%, a slip) and 20%; over the four
 // days 7 of 21, 33.33%.
-pub fn number_of_instructions() {
+pub fn paragraph_27() {
     say(b"\nDocument 002, paragraph 27\n");
     let book = Book::fresh();
     let book = one_day(book, 0, 0, 4, 0, 3);
@@ -71,7 +66,7 @@ fn say_four_days(book: Book) {
 }
 
 // 100 EUR: 50 settle on the ISD, 20 on the day after, 30 two days later.
-pub fn partial_settlement() {
+pub fn paragraph_29() {
     say(b"\nDocument 002, paragraph 29\n");
     let book = Book::fresh();
     let book = make(book, b"enter 1 of 10000", enter(1, 0, 10000));
@@ -86,7 +81,7 @@ pub fn partial_settlement() {
 }
 
 // 100 EUR: matched three days after the ISD, and settled on that day: 75% in number and in value.
-pub fn late_matching() {
+pub fn paragraph_31() {
     say(b"\nDocument 002, paragraph 31\n");
     let book = Book::fresh();
     let book = make(book, b"close", Call::Close);
@@ -99,7 +94,7 @@ pub fn late_matching() {
 }
 
 // Four transactions; the reporting month is days 1 to 5: 345 over 145, 2.38 days, which the paper rounds to 2.4.
-pub fn average_duration() {
+pub fn annex_3() {
     say(b"\nDocument 002, Annex III\n");
     let book = Book::fresh();
     let book = make(book, b"enter 1 of 10000", enter(1, 0, 10000));

@@ -1,5 +1,7 @@
-// Each of the numbers 1 to 9 and 11, once with its condition, and the same call accepted without it.
+// Each of the numbers 1 to 9 and 11 but 4, which `checks` has: with its condition, and the same call accepted without it.
 use crate::checks::enter;
+use crate::reporting::say_report;
+use crate::text::after;
 use crate::text::make;
 use crate::text::say;
 use crate::text::say_number;
@@ -41,9 +43,7 @@ fn on_last_day() -> Book {
     let mut book = Book::fresh();
     let mut day: u64 = 0;
     while day < 63 {
-        let outcome = book.apply(Call::Close);
-        let next = outcome.book;
-        book = next;
+        book = after(book, Call::Close);
         day += 1;
     }
     book
@@ -57,6 +57,9 @@ pub fn finished() {
     let book = make(book, b"1, close", Call::Close);
     let book = make(book, b"1, settle 100 of 1", Call::Settle(1, 100));
     say_row(book, 63, 0);
+    say_report(book, 0, 63, 0);
+    say_report(book, 63, 63, 0);
+    say_report(book, 0, 64, 0);
 }
 
 // The row of day 0 as text into a lent buffer, what comes back, and the buffer then.

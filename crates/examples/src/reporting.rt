@@ -1,12 +1,16 @@
-// Reports: those of document 01's example, one category and all nine; refusals; and rates of large numbers.
+// Reports: those of document 01's example, refused ones, rates of large numbers, and all nine categories in one call.
+use crate::checks::enter_in;
+use crate::text::make;
 use crate::text::say;
 use crate::text::say_number;
 use crate::text::say_refusal;
 use book::book::Book;
+use book::calls::Call;
 use book::rows::Row;
 use rates::Duration;
 use rates::average_duration;
 use rates::fail_rate;
+use rates::stored::LARGEST;
 use reports::nine::NumberedReport;
 use reports::nine::nine_reports;
 use reports::reports::Report;
@@ -43,10 +47,8 @@ pub fn say_report(book: Book, first: u64, last: u64, category: u64) {
 fn say_figures(report: Report) {
     let duration = report.duration;
     say_sums(report.sums);
-    say(b",");
-    say_number(report.rate_by_number);
-    say(b",");
-    say_number(report.rate_by_value);
+    say_column(report.rate_by_number);
+    say_column(report.rate_by_value);
     say(b",");
     say_duration(duration);
 }
@@ -101,21 +103,18 @@ fn say_numbered(category: u64, report: NumberedReport) {
 }
 
 // The reports of document 01's example, which leaves this book.
-pub fn of_example(book: Book) {
+pub fn example_reports(book: Book) {
     say(b"\nReports of document 01's example\n");
     say_report(book, 0, 3, 0);
     say_report(book, 0, 3, 1);
     say_report(book, 1, 2, 0);
     say_report(book, 2, 2, 0);
     say_report(book, 3, 3, 0);
-    say(
-        b"\nAll nine categories, days 0 to 3, and then days 0 to 4, of which the last is not closed\n",
-    );
-    say_nine(book, 0, 3);
+    say(b"\nAll nine categories, days 0 to 4, of which the last is not closed\n");
     say_nine(book, 0, 4);
     say(b"\nRefused reports: last day not closed, first after last, category over 9\n");
     say_report(book, 0, 4, 0);
-    say_report(book, 0, 18446744073709551615, 0);
+    say_report(book, 0, LARGEST, 0);
     say_report(book, 3, 2, 0);
     say_report(book, 0, 3, 10);
     say_report(book, 3, 2, 10);
@@ -144,7 +143,7 @@ fn say_average(fail_values: u64, isd_values: u64) {
 }
 
 // Products that pass 64 bits, halves, and results that don't fit.
-pub fn of_numbers() {
+pub fn large_rates() {
     say(b"\nRates and durations of numbers\n");
     say_rate(3, 8);
     say_rate(7, 21);
@@ -152,12 +151,38 @@ pub fn of_numbers() {
     say_rate(0, 0);
     say_rate(82594580000000000, 83884800000000000);
     say_rate(288230376151711744, 9223372036854775808);
-    say_rate(18446744073709551615, 18446744073709551615);
-    say_rate(18446744073709551615, 10000);
-    say_rate(18446744073709551615, 9999);
+    say_rate(LARGEST, LARGEST);
+    say_rate(LARGEST, 10000);
+    say_rate(LARGEST, 9999);
     say_average(38000, 18000);
     say_average(82594580000000000, 2);
     say_average(38000, 0);
-    say_average(18446744073709551615, 18446744073709551614);
-    say_average(18446744073709551615, 1);
+    say_average(LARGEST, LARGEST - 1);
+    say_average(LARGEST, 1);
+}
+
+// A pair that fails, one that settles and one that settles in part, each in a category of its own.
+pub fn nine_categories() {
+    say(b"\nPairs in categories 1, 5 and 9\n");
+    let book = Book::fresh();
+    let book = make(
+        book,
+        b"enter 1 of 100 in category 1",
+        enter_in(1, 1, 0, 100),
+    );
+    let book = make(
+        book,
+        b"enter 2 of 200 in category 5",
+        enter_in(5, 2, 0, 200),
+    );
+    let book = make(
+        book,
+        b"enter 3 of 300 in category 9",
+        enter_in(9, 3, 0, 300),
+    );
+    let book = make(book, b"settle 200 of 2", Call::Settle(2, 200));
+    let book = make(book, b"settle 100 of 3", Call::Settle(3, 100));
+    let book = make(book, b"close", Call::Close);
+    say_report(book, 0, 0, 0);
+    say_nine(book, 0, 0);
 }

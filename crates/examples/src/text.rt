@@ -1,8 +1,8 @@
-// What the examples write: a line for each call with the number that comes back, and a line for each row.
+// Calls made, and what is written: a line for each named call with the number that comes back, and one for each row.
 use book::book::Book;
 use book::calls::Call;
 use book::calls::Refusal;
-use reports::text::ROOM;
+use reports::text::SHORTEST_BUFFER;
 use reports::text::TextAnswer;
 use reports::text::row_text;
 
@@ -14,6 +14,12 @@ pub fn say(text: &[u8]) {
 // A number in decimal.
 pub fn say_number(n: u64) {
     let _written = io::print_decimal(1, n);
+}
+
+// The book after a call, whatever comes back.
+pub fn after(book: Book, call: Call) -> Book {
+    let outcome = book.apply(call);
+    outcome.book
 }
 
 // A call, named, and the number that comes back, 0 where it is accepted.
@@ -32,7 +38,7 @@ pub fn say_row(book: Book, day: u64, category: u64) {
     say(b"row of category ");
     say_number(category);
     say(b": ");
-    let mut buffer = [0; ROOM];
+    let mut buffer = [0; SHORTEST_BUFFER];
     let answer = row_text(book, day, category, &mut buffer);
     match answer {
         TextAnswer::Written(count) => say(&buffer[0..count]),
@@ -48,7 +54,7 @@ pub fn say_columns() {
     say(b"A row is day,total_n,settled_n,sec_n,cash_n,total_v,settled_v,sec_v,cash_v,isd_v\n");
 }
 
-// The number that comes back.
+// Ends a line: refused, and by which number.
 pub fn say_refusal(refusal: Refusal) {
     say(b" is refused by ");
     say_number(refusal.number());

@@ -12,6 +12,6 @@ pub mod Names
 pub mod Texts
 pub mod Ends
 pub mod RoundTrip
--- bytes put into a buffer, and numbers put there as a line
+-- bytes put into a buffer, and a line as its fields
 pub mod Buffers
 pub mod Joined

@@ -38,7 +38,8 @@ fn separator(more: bool) -> u8
     if more { b',' } else { b'\n' }
 }
 
-// Puts numbers as a line at a place, as far as the buffer goes, and answers the place behind it.
+// Puts numbers as a line at a place, as far as the buffer goes, and answers the place behind it. Of no numbers nothing is
+// put, no LF either.
 pub fn put_line(buffer: &mut [u8], at: usize, fields: &[u64]) -> usize
     ensures { λ r. ⌜ Put (now (buffer .entry)) at (joined (now (fields .entry))) r (now (buffer .exit)) ⌝ }
 {

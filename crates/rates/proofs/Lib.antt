@@ -1,4 +1,4 @@
-pub mod Examples
 pub mod Rounding
-pub mod Bounds
+pub mod RateBounds
 pub mod DurationValues
+pub mod Examples

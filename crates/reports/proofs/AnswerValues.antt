@@ -5,7 +5,7 @@ use mathlib.Core.Path.{_≡_, ap}
 use mathlib.Core.List.{List}
 use Rattle.rates.proofs.DurationValues.{hundredths-injective}
 use Rattle.book.proofs.AnswerNumbers.{refusal-injective, answer-injective}
-use Rattle.reports.specs.Reports.{Report, ReportAnswer, reportedBy, givenBy}
+use Rattle.reports.specs.Reports.{Report, ReportAnswer, reportedBy, reportGivenBy}
 use Rattle.reports.specs.Nine.{NumberedReport, numberedBy}
 use Rattle.reports.specs.RowText.{TextAnswer, textBy}
 
@@ -19,7 +19,7 @@ reported-injective a b h = λ i. record {
 }
 
 -- Two answers for a report that give the same are the same.
-pub given-injective : (a b : ReportAnswer) → givenBy a ≡ givenBy b → a ≡ b
+pub given-injective : (a b : ReportAnswer) → reportGivenBy a ≡ reportGivenBy b → a ≡ b
 given-injective (ReportAnswer.Figures r) (ReportAnswer.Figures s) h = ap ReportAnswer.Figures (reported-injective r s (cc))
 given-injective (ReportAnswer.Figures r) (ReportAnswer.Refused b) h = cc
 given-injective (ReportAnswer.Refused a) (ReportAnswer.Figures s) h = cc

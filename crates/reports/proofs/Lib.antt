@@ -1,3 +1,4 @@
 pub mod Theorems
+pub mod Functions
 pub mod AnswerValues
 pub mod Examples

@@ -1,11 +1,11 @@
 -- Theorems on reports and on a row as text, to be read from top to bottom.
 
--- cells added up, and that their sums are those of the rows
-pub mod Adding
+-- the sums of cells are those of the rows
 pub mod Sums
--- all nine categories; the rows that a report is of
-pub mod Nine
+-- the rows that a report is of; plain sums in it for every list of calls
 pub mod OfRows
--- for every list of calls: plain sums in a report, a row's text whole
 pub mod Plain
+-- all nine categories
+pub mod Nine
+-- a row's text, whole for every list of calls
 pub mod WholeLines

@@ -1,6 +1,6 @@
 -- The reports of all nine categories in one call. Document 01, 'A report': 'One call gives a report for all nine categories
 -- together', and 'Numbers given back'. Assumes nothing.
-use Prim.Native.Nat.{ℕ, suc, _-_, _≤_}
+use Prim.Native.Nat.{ℕ, _-_, _≤_}
 use mathlib.Core.Path.{_≡_}
 use mathlib.Core.Bool.{cond}
 use mathlib.Core.List.{List, [], _∷_, map}
@@ -9,10 +9,10 @@ use lib.ListN.{getD}
 use Rattle.book.specs.declared.book.Book.{Book}
 use Rattle.book.specs.Limits.{categoryCount}
 use Rattle.book.specs.Sums.{All}
-use Rattle.book.specs.Figures.{none as noCell}
+use Rattle.book.specs.Figures.{nothing}
 use Rattle.book.specs.Answers.{answerNumber}
-use Rattle.book.specs.Rows.{rowFrom}
-use Rattle.reports.specs.Reports.{Reported, reportedBy, ReportAnswer, Given, refusedBy, figures, givenBy, notGiven, reportAnswer}
+use Rattle.book.specs.Rows.{Given, refusedBy, figures}
+use Rattle.reports.specs.Reports.{Reported, reportedBy, ReportAnswer, reportGivenBy, daysRefused, reportAnswer}
 pub use Rattle.reports.specs.declared.nine.NumberedReport.{NumberedReport}
 
 -- a report with the number that came back, 0 where none did
@@ -22,20 +22,29 @@ pub record Numbered : Type 0 where
 
 -- Refused, the figures stand as 0, the duration absent.
 abbrev pub noReport : Reported
-noReport = record { sums = rowFrom noCell; rateByNumber = 0; rateByValue = 0; duration = none }
+noReport = record {
+  sums = record { total = nothing; settled = nothing; securities = nothing; cash = nothing; «isd_value» = 0 };
+  rateByNumber = 0;
+  rateByValue = 0;
+  duration = none;
+}
 
--- what comes back for a category, as one of the nine
-abbrev pub numbered : Given → Numbered
+-- what comes back, with its number beside the report
+abbrev pub numbered : Given Reported → Numbered
 numbered (refusedBy n) = record { number = n; report = noReport }
 numbered (figures r) = record { number = 0; report = r }
 
+-- what comes back for a category, as one of the nine
+abbrev pub oneOfNine : Book → ℕ → ℕ → ℕ → Numbered
+oneOfNine b first last category = numbered (reportAnswer b first last category)
+
 -- categories 1 to 9
-abbrev pub categories : List ℕ
+abbrev categories : List ℕ
 categories = 1 ∷ 2 ∷ 3 ∷ 4 ∷ 5 ∷ 6 ∷ 7 ∷ 8 ∷ 9 ∷ []
 
 -- One call gives a report for all nine categories together.
 unfoldable pub nineAnswer : Book → ℕ → ℕ → List Numbered
-nineAnswer b first last = map (λ category. numbered (reportAnswer b first last category)) categories
+nineAnswer b first last = map (oneOfNine b first last) categories
 
 -- what one of the nine stands for
 abbrev pub numberedBy : NumberedReport → Numbered
@@ -50,9 +59,11 @@ NineAreSingle =
     → 1 ≤ category
     → category ≤ categoryCount
     → map numberedBy nine ≡ nineAnswer b first last
-    → givenBy single ≡ reportAnswer b first last category
-    → getD (map numberedBy nine) (category - 1) outside ≡ numbered (givenBy single)
+    → reportGivenBy single ≡ reportAnswer b first last category
+    → getD (map numberedBy nine) (category - 1) outside ≡ numbered (reportGivenBy single)
 
 -- All nine carry the same number.
 abbrev pub NineCarryOne : Type 0
-NineCarryOne = (b : Book) (first last : ℕ) → All (λ r. r .number ≡ cond (notGiven b first last) 9 0) (nineAnswer b first last)
+NineCarryOne =
+    (b : Book) (first last : ℕ)
+    → All (λ r. r .number ≡ cond (daysRefused b first last) 9 0) (nineAnswer b first last)

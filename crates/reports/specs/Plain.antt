@@ -1,18 +1,21 @@
--- For every list of calls a report's numbers are the formulas over plain sums, and these are counted from the calls: no cap is
--- reached and no `min` cuts one off. Assumes nothing.
+-- For every list of calls a report's numbers are the formulas of document 01, 'A report', over plain sums, and these are
+-- counted from the calls: no cap is reached and no `min` cuts one off. Assumes nothing.
 use Prim.Native.Nat.{ℕ, suc, _+_, _-_, _≤_}
 use mathlib.Core.Path.{_≡_}
+use mathlib.Core.Bool.{cond, not, _||_}
 use mathlib.Core.List.{List}
 use mathlib.Core.Option.{some}
+use lib.Dec.{ltb}
 use Rattle.book.specs.declared.calls.Call.{Call}
 use Rattle.book.specs.declared.cells.Cell.{Cell}
 use Rattle.book.specs.declared.rows.Row.{Row}
-use Rattle.book.specs.Rows.{rowOf}
-use Rattle.book.specs.History.{Measure, counts}
+use Rattle.book.specs.Limits.{categoryCount}
+use Rattle.book.specs.Rows.{refusedBy, figures}
+use Rattle.book.specs.History.{Measure, closed, counts}
 use Rattle.book.specs.Balance.{bookAfter, acceptedOf, inMeasure}
 use Rattle.book.specs.Counted.{Column, column, counted}
 use Rattle.book.specs.Exact.{sumFrom}
-use Rattle.reports.specs.Reports.{Reported, plain, failsIn, reportOf, figures, reportAnswer}
+use Rattle.reports.specs.Reports.{Reported, plain, failsIn, reportOf, rowsOf, reportAnswer}
 
 -- a row without its total, which is the sum of the parts
 abbrev pub partsOf : Row → Cell
@@ -29,7 +32,7 @@ countedOver calls category figure first last = sumFrom (countedOn calls category
 -- what is known of a report that is given after these calls
 pub record PlainReport (calls : List Call) (first last category : ℕ) (r : Reported) : Type 0 where
   -- sums, rates and duration are the formulas over plain sums
-  pub formulas : r ≡ reportOf plain (λ day. rowOf (bookAfter calls) day category) first last
+  pub formulas : r ≡ reportOf plain (rowsOf (bookAfter calls) category) first last
   -- and each sum is counted from the calls
   pub counted : (figure : Column) → column figure (partsOf (r .sums)) ≡ countedOver calls category figure first last
   -- total is settled and fails together
@@ -45,3 +48,12 @@ PlainReports =
     (calls : List Call) (first last category : ℕ) (r : Reported)
     → reportAnswer (bookAfter calls) first last category ≡ figures r
     → PlainReport calls first last category r
+
+-- Which report is given is read off the calls and their answers too: its last day is one on which an accepted close falls.
+abbrev pub ReportsFromCalls : Type 0
+ReportsFromCalls =
+    (calls : List Call) (first last category : ℕ)
+    → category ≤ categoryCount
+    → reportAnswer (bookAfter calls) first last category
+    ≡ cond (ltb last first || not (closed (acceptedOf calls) last)) (refusedBy 9)
+    (figures (reportOf plain (rowsOf (bookAfter calls) category) first last))

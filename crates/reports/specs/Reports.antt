@@ -11,7 +11,7 @@ use Rattle.book.specs.declared.book.Book.{Book}
 use Rattle.book.specs.declared.rows.Row.{Row}
 use Rattle.book.specs.Limits.{categoryCount}
 use Rattle.book.specs.Answers.{refusalNumber}
-use Rattle.book.specs.Rows.{rowOf, isClosed}
+use Rattle.book.specs.Rows.{rowOf, Given, refusedBy, figures, isClosed}
 use Rattle.book.specs.History.{Measure, number, value}
 use Rattle.book.specs.Balance.{inMeasure}
 use Rattle.book.specs.Exact.{sumFrom}
@@ -77,11 +77,6 @@ module _ (kept : ℕ → ℕ) where
 
 -- ---- what comes back
 
--- a number and no figures, or the figures
-pub data Given : Type 0 where
-  refusedBy : ℕ → Given
-  figures : Reported → Given
-
 -- what a report of the code says
 abbrev pub reportedBy : Report → Reported
 reportedBy r = record {
@@ -92,18 +87,22 @@ reportedBy r = record {
 }
 
 -- the number or the figures that an answer stands for
-abbrev pub givenBy : ReportAnswer → Given
-givenBy (ReportAnswer.Figures r) = figures (reportedBy r)
-givenBy (ReportAnswer.Refused r) = refusedBy (refusalNumber r)
+abbrev pub reportGivenBy : ReportAnswer → Given Reported
+reportGivenBy (ReportAnswer.Figures r) = figures (reportedBy r)
+reportGivenBy (ReportAnswer.Refused r) = refusedBy (refusalNumber r)
+
+-- the rows of a category, day by day
+abbrev pub rowsOf : Book → ℕ → ℕ → Row
+rowsOf b category day = rowOf b day category
 
 -- 9: first after last, or last not closed
-abbrev pub notGiven : Book → ℕ → ℕ → Bool
-notGiven b first last = ltb last first || not (isClosed b last)
+abbrev pub daysRefused : Book → ℕ → ℕ → Bool
+daysRefused b first last = ltb last first || not (isClosed b last)
 
 -- From first to last closed day, for category 0 (all) or 1 to 9: category over 9 is 2, first after last or last not
 -- closed 9.
-unfoldable pub reportAnswer : Book → ℕ → ℕ → ℕ → Given
+unfoldable pub reportAnswer : Book → ℕ → ℕ → ℕ → Given Reported
 reportAnswer b first last category =
     cond (not (leb category categoryCount)) (refusedBy 2)
-    (cond (notGiven b first last) (refusedBy 9)
-    (figures (reportOf capped (λ day. rowOf b day category) first last)))
+    (cond (daysRefused b first last) (refusedBy 9)
+    (figures (reportOf capped (rowsOf b category) first last)))

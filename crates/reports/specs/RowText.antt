@@ -35,38 +35,41 @@ rowFields day r =
 abbrev pub rowLine : ℕ → Row → List ℕ
 rowLine day r = joined (rowFields day r)
 
--- the least length of the buffer
-abbrev pub textRoom : ℕ
-textRoom = 128
+-- 11 where the buffer is shorter
+abbrev pub shortestBuffer : ℕ
+shortestBuffer = 128
 
 -- ---- what comes back, and what the buffer then holds
 
 -- a number, or the count of the bytes written
 pub data Count : Type 0 where
-  refused : ℕ → Count
-  written : ℕ → Count
+  noBytes : ℕ → Count
+  bytesWritten : ℕ → Count
 
+-- both together
 pub record Text : Type 0 where
   pub count : Count
   pub buffer : List ℕ
 
 -- the number or the count that an answer stands for, beside the buffer
 abbrev pub textBy : TextAnswer → List ℕ → Text
-textBy (TextAnswer.Written n) buffer = record { count = written n; buffer = buffer }
-textBy (TextAnswer.Refused r) buffer = record { count = refused (refusalNumber r); buffer = buffer }
+textBy (TextAnswer.Written n) buffer = record { count = bytesWritten n; buffer = buffer }
+textBy (TextAnswer.Refused r) buffer = record { count = noBytes (refusalNumber r); buffer = buffer }
 
 -- refused: buffer the same
-abbrev pub untouched : ℕ → List ℕ → Text
-untouched n buffer = record { count = refused n; buffer = buffer }
+abbrev untouched : ℕ → List ℕ → Text
+untouched n buffer = record { count = noBytes n; buffer = buffer }
 
 -- A line goes to the buffer's start, as far as the buffer goes; the bytes behind it stay.
 abbrev pub withLine : List ℕ → List ℕ → Text
-withLine line buffer = record { count = written (min (length line) (length buffer)); buffer = sets buffer 0 line }
+withLine line buffer = record { count = bytesWritten (min (length line) (length buffer)); buffer = sets buffer 0 line }
 
 -- The row's own refusals, 2 and 9, come first; then a buffer under 128 bytes is 11.
-abbrev pub textOf : Given → ℕ → List ℕ → Text
+abbrev pub textOf : Given Row → ℕ → List ℕ → Text
 textOf (refusedBy n) day buffer = untouched n buffer
-textOf (figures r) day buffer = cond (ltb (length buffer) textRoom) (untouched 11 buffer) (withLine (rowLine day r) buffer)
+textOf (figures r) day buffer =
+    cond (ltb (length buffer) shortestBuffer) (untouched 11 buffer)
+    (withLine (rowLine day r) buffer)
 
 -- A row as text takes a day and a category 0 to 9.
 unfoldable pub rowText : Book → ℕ → ℕ → List ℕ → Text
@@ -74,17 +77,17 @@ rowText b day category buffer = textOf (rowAnswer b day category) day buffer
 
 -- ---- the statement
 
--- the most bytes that a line of the table has: 2 digits of the day, 6 of each number and 16 of each value, and 10 bytes
--- between and behind them
-abbrev pub longestLine : ℕ
-longestLine = 116
+-- a bound on the bytes of a line: 2 digits of the day, 6 of each number, 16 of each value, and 10 bytes between and behind
+-- them
+abbrev pub lineBound : ℕ
+lineBound = 116
 
 -- For every list of calls the bytes written are the whole line, and the bytes behind it stay.
 abbrev pub WholeLines : Type 0
 WholeLines =
     (calls : List Call) (day category n : ℕ) (buffer : List ℕ)
-    → rowText (bookAfter calls) day category buffer .count ≡ written n
+    → rowText (bookAfter calls) day category buffer .count ≡ bytesWritten n
     → let line = rowLine day (rowOf (bookAfter calls) day category) in
     (n ≡ length line)
-    × (length line ≤ longestLine)
+    × (length line ≤ lineBound)
     × (rowText (bookAfter calls) day category buffer .buffer ≡ line ++ drop (length line) buffer)

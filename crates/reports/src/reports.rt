@@ -1,7 +1,7 @@
 // A report over a run of days: the sums of its rows, the fail rates and the average duration. Document 01, 'A report'.
 ghost use mathlib.Core.Path.{_≡_};
 ghost use Rattle.rates.specs.Stored.{capped};
-ghost use Rattle.reports.specs.Reports.{reportFrom, reportedBy, givenBy, reportAnswer};
+ghost use Rattle.reports.specs.Reports.{reportFrom, reportedBy, reportGivenBy, reportAnswer};
 use crate::sums::sums_of;
 use book::book::Book;
 use book::calls::Refusal;
@@ -42,7 +42,7 @@ fn report_from(sums: Row) -> Report
 
 // The report from the first to the last day, both included, for a category, 0 for all nine together.
 pub fn single_report(book: Book, first: u64, last: u64, category: u64) -> ReportAnswer
-    ensures { λ r. ⌜ givenBy r ≡ reportAnswer book first last category ⌝ }
+    ensures { λ r. ⌜ reportGivenBy r ≡ reportAnswer book first last category ⌝ }
 {
     if CATEGORIES < category {
         return ReportAnswer::Refused(Refusal::OutOfRange);

@@ -7,8 +7,8 @@ use book::rows::Row;
 use book::rows::RowAnswer;
 use lines::writing::put_line;
 
-// The least length of a buffer that is lent for a row.
-pub const ROOM: usize = 128;
+// A shorter buffer is refused.
+pub const SHORTEST_BUFFER: usize = 128;
 
 // What comes back: the count of the bytes written, or a refusal.
 pub enum TextAnswer {
@@ -17,7 +17,7 @@ pub enum TextAnswer {
 }
 
 // The columns of the table.
-fn fields_of(day: u64, row: Row) -> [u64; 10]
+fn row_fields(day: u64, row: Row) -> [u64; 10]
     ensures { λ r. ⌜ r ≡ rowFields day row ⌝ }
 {
     [
@@ -41,10 +41,10 @@ pub fn row_text(book: Book, day: u64, category: u64, buffer: &mut [u8]) -> TextA
     let answer = book.row(day, category);
     match answer {
         RowAnswer::Figures(row) => {
-            if buffer.len() < ROOM {
+            if buffer.len() < SHORTEST_BUFFER {
                 return TextAnswer::Refused(Refusal::ShortBuffer);
             }
-            let fields = fields_of(day, row);
+            let fields = row_fields(day, row);
             TextAnswer::Written(put_line(buffer, 0, &fields))
         }
         RowAnswer::Refused(refusal) => TextAnswer::Refused(refusal),

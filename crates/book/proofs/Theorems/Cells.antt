@@ -14,14 +14,29 @@ use Rattle.book.specs.Limits.{dayLimit, cellCount}
 use Rattle.book.specs.Sums.{only, capped, total, All}
 use Rattle.book.specs.Pairs.{Entry}
 use Rattle.book.specs.Figures.{Cell, none, Posting, place, cellAt, addCell, post, postAll}
-use Rattle.book.specs.Rows.{cellsFrom}
+use Rattle.book.specs.Rows.{addedFrom, cellsFrom}
 use Rattle.book.specs.History.{number, value, counts, sumOver}
 use Rattle.book.specs.Counted.{Column, settled, securities, cash, isdValue, column, postedFor}
 use Rattle.book.specs.Exact.{sumFrom}
-use Rattle.book.proofs.Theorems.Sums.{tests, total-add, total-none, total-all}
+use Rattle.book.proofs.Theorems.Sums.{tests, total-add, total-none, total-all, sum-same, sum-of-capped}
 use Rattle.book.proofs.Theorems.Allowed.{IsCategory}
 
 -- ---- the figures of a cell
+
+-- a number read off a cell that is 0 for the empty one, and is added, up to the cap, where cells are
+pub record AddsUp (read : Cell → ℕ) : Type 0 where
+  pub empty : read none ≡ 0
+  pub added : (a b : Cell) → read (addCell a b) ≡ capped (read a + read b)
+
+-- of cells added up it is the sum of theirs, up to the cap
+pub sum-of-cells : (read : Cell → ℕ) → AddsUp read → (cell : ℕ → Cell) (first n : ℕ)
+    → read (addedFrom cell first n) ≡ capped (sumFrom (λ k. read (cell k)) first n)
+unfolding addedFrom
+sum-of-cells read adds cell first zero = adds .empty
+sum-of-cells read adds cell first (suc n) =
+    let a = adds .added (cell first) (addedFrom cell (suc first) n) in
+    let i = sum-of-cells read adds cell (suc first) n in
+    omega arith
 
 -- each figure of a sum of cells is the sum of theirs, up to the cap
 column-add : (figure : Column) (a b : Cell) → column figure (addCell a b) ≡ capped (column figure a + column figure b)
@@ -132,21 +147,20 @@ module _ (figure : Column) (d c : ℕ) (l : d < dayLimit) (r : IsCategory c) whe
   -- an array that was empty stores what was posted to it
   pub cell-stores : (xs : List Posting) (cells : List Cell) → length cells ≡ cellCount → column figure (cellAt cells d c) ≡ 0
       → All InTime xs
-      → column figure (cellAt (postAll post xs cells) d c) ≡ capped (postedFor (column figure) (λ t. counts c (t .category)) d xs)
+      → column figure (cellAt (postAll post xs cells) d c)
+      ≡ capped (postedFor (column figure) (λ t. counts c (t .category)) d xs)
   cell-stores xs cells room empty a = let s = stores-all xs cells 0 a (room, omega arith) .1 in omega arith
 
 -- ---- category 0
 
--- the cells of n categories together, each of which stores so much
+-- the cells of the nine categories together, each of which stores so much
 pub cells-together : (figure : Column) (cells : List Cell) (d : ℕ) (stored : ℕ → ℕ)
     → ((c : ℕ) → IsCategory c → column figure (cellAt cells d c) ≡ capped (stored c))
-    → (n c : ℕ) → 1 ≤ c → c + n ≤ 10 → column figure (cellsFrom n c cells d) ≡ capped (sumFrom stored c n)
-cells-together figure cells d stored h zero c one l = column-none figure
-cells-together figure cells d stored h (suc n) c one l =
-    let a = column-add figure (cellAt cells d c) (cellsFrom n (suc c) cells d) in
-    let b = h c (one, omega arith) in
-    let i = cells-together figure cells d stored h n (suc c) (omega arith) (omega arith) in
-    omega arith
+    → column figure (cellsFrom 9 1 cells d) ≡ capped (sumFrom stored 1 9)
+cells-together figure cells d stored h =
+    sum-of-cells (column figure) (record { empty = column-none figure; added = column-add figure }) (cellAt cells d) 1 9
+    ∙ ap capped (sum-same _ (λ c. capped (stored c)) 1 9 (λ c low high. h c (low, omega arith)))
+    ∙ sum-of-capped stored 1 9
 
 -- the sums over pairs, added up over n categories, are one sum over pairs
 sums-together : (w : ℕ → Entry → ℕ) (es : List Entry) (c n : ℕ)
@@ -161,13 +175,15 @@ sums-together w es c (suc n) =
 none-above : (own v c n : ℕ) → own < c → sumFrom (λ k. only (counts k own) v) c n ≡ 0
 none-above own v c zero l = refl
 none-above own v c (suc n) l =
-    rw (ne-eqb c 0 (omega arith), ne-eqb c own (omega arith)) (let i = none-above own v (suc c) n (omega arith) in omega arith)
+    rw (ne-eqb c 0 (omega arith), ne-eqb c own (omega arith))
+    (let i = none-above own v (suc c) n (omega arith) in omega arith)
 
 -- of the categories from c on one counts a pair, its own
 one-counts : (own v c n : ℕ) → 1 ≤ c → c ≤ own → own < c + n → sumFrom (λ k. only (counts k own) v) c n ≡ v
 one-counts own v c zero one low high = absurd (omega arith)
 one-counts own v c (suc n) one low high =
-    rw (ne-eqb c 0 (omega arith)) (go (eqb c own) refl (λ above. one-counts own v (suc c) n (omega arith) above (omega arith)))
+    rw (ne-eqb c 0 (omega arith))
+    (go (eqb c own) refl (λ above. one-counts own v (suc c) n (omega arith) above (omega arith)))
   where
     go : (t : Bool) → eqb c own ≡ t → (suc c ≤ own → sumFrom (λ k. only (counts k own) v) (suc c) n ≡ v)
         → only t v + sumFrom (λ k. only (counts k own) v) (suc c) n ≡ v

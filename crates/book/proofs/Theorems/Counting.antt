@@ -32,7 +32,7 @@ use Rattle.book.specs.Counted.{
   AmountsAreKept,
 }
 use Rattle.book.specs.Exact.{most, sumFrom}
-use Rattle.book.proofs.Theorems.Sums.{only-le, total-only-add, all-map}
+use Rattle.book.proofs.Theorems.Sums.{only-le, total-only-add, all-map, sum-same}
 use Rattle.book.proofs.Theorems.Allowed.{IsCategory, Ranges}
 use Rattle.book.proofs.Theorems.Proper.{Proper}
 use Rattle.book.proofs.Theorems.Lived.{Lived, settledIn, failsIn}
@@ -49,7 +49,8 @@ abbrev allIn : Measure → Cell → ℕ
 allIn m c = settledIn m c + failsIn m c
 
 -- postings give a sum of two figures as the sum of what they give to each
-posted-add : (f g : Cell → ℕ) (d : ℕ) (xs : List Posting) → postedOn (λ c. f c + g c) d xs ≡ postedOn f d xs + postedOn g d xs
+posted-add : (f g : Cell → ℕ) (d : ℕ) (xs : List Posting)
+    → postedOn (λ c. f c + g c) d xs ≡ postedOn f d xs + postedOn g d xs
 posted-add f g d xs = total-only-add (λ x. eqb (x .day) d) _ _ _ (λ x. refl) xs
 
 -- so do the lives
@@ -64,7 +65,8 @@ pub counted-most : (m : Measure) (selects : Entry → Bool) (h : List Call) → 
 unfolding counted
 counted-most m selects h P d = most-of-pairs m h P _ (all-map (Lived h) _ each (pairs h) (lives h P))
   where
-    each : (e : Entry) → Lived h e → only (selects e) (postedOn (allIn m) d (life h (e .id))) ≤ twoSIs m (e .amount) + twoMore m
+    each : (e : Entry) → Lived h e
+        → only (selects e) (postedOn (allIn m) d (life h (e .id))) ≤ twoSIs m (e .amount) + twoMore m
     each e L =
         let a = L .most m d in
         let b = only-le (selects e) (postedOn (allIn m) d (life h (e .id))) in
@@ -79,7 +81,8 @@ measureOf (cash m) = m
 measureOf isdValue = value
 
 -- a figure of a posting is a part of what settled and failed
-column-part : (figure : Column) (x : Posting) → IsdPart x → column figure (x .figures) ≤ allIn (measureOf figure) (x .figures)
+column-part : (figure : Column) (x : Posting) → IsdPart x
+    → column figure (x .figures) ≤ allIn (measureOf figure) (x .figures)
 column-part (settled m) x l = omega arith
 column-part (securities m) x l = omega arith
 column-part (cash m) x l = omega arith
@@ -136,7 +139,7 @@ module _ (calls : List Call) (figure : Column) (d : ℕ) (l : d < dayLimit) wher
   row-lives : (category : ℕ) → category ≤ 9 → column figure (cellOf (bookAfter calls .cells) d category) ≡ given category
   unfolding cellOf
   row-lives zero nine =
-      cells-together figure (bookAfter calls .cells) d given stored 9 1 (omega arith) (omega arith) ∙ ap capped together ∙ exact 0
+      cells-together figure (bookAfter calls .cells) d given stored ∙ ap capped together ∙ exact 0
   row-lives (suc c) nine = stored (suc c) (omega arith, nine) ∙ exact (suc c)
 
 -- Each figure of each row is the plain sum of the lives.
@@ -144,18 +147,10 @@ pub rows-lives : RowsAreLives
 unfolding given
 rows-lives calls figure d category l nine = row-lives calls figure d l category nine
 
--- numbers that are equal from `first` on have equal sums
-pub sum-same : (f g : ℕ → ℕ) (first n : ℕ) → ((c : ℕ) → first ≤ c → c < first + n → f c ≡ g c)
-    → sumFrom f first n ≡ sumFrom g first n
-sum-same f g first zero same = refl
-sum-same f g first (suc n) same =
-    let a = same first (omega arith) (omega arith) in
-    let i = sum-same f g (suc first) n (λ c l k. same c (omega arith) (omega arith)) in
-    omega arith
-
 -- Category 0 is the sum of the nine.
 pub categories-sum : (calls : List Call) (figure : Column) (d : ℕ) → d < dayLimit
-    → column figure (cellOf (bookAfter calls .cells) d 0) ≡ sumFrom (λ c. column figure (cellOf (bookAfter calls .cells) d c)) 1 9
+    → column figure (cellOf (bookAfter calls .cells) d 0)
+    ≡ sumFrom (λ c. column figure (cellOf (bookAfter calls .cells) d c)) 1 9
 categories-sum calls figure d l =
     let a = row-lives calls figure d l 0 (omega arith) in
     let b = together calls figure d l in

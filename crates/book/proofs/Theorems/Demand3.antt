@@ -131,14 +131,17 @@ cond-not : {A : Type 0} (t : Bool) (a b : A) → cond (not t) a b ≡ cond t b a
 cond-not true a b = refl
 cond-not false a b = refl
 
--- A day is closed, by the accepted calls, exactly where the row call gives figures.
-pub closed-given : ClosedDaysAreGiven
-unfolding rowAnswer
-closed-given calls day category nine =
+-- A day is closed in the book exactly where it is by the accepted calls.
+pub closed-same : (calls : List Call) (day : ℕ) → isClosed (bookAfter calls) day ≡ closed (acceptedOf calls) day
+closed-same calls day =
     let h = acceptedOf calls in
     let K = kept calls in
     let t = K .mirrors .today in
     let l = days-most h (K .proper) in
-    let same : isClosed (bookAfter calls) day ≡ closed h day
-    = closed-both day (bookAfter calls .today) (omega arith) ∙ ap (ltb day) t ∙ sym (closed-past h day) in
-    rw (le-leb category categoryCount nine, same) (cond-not (closed h day) _ _)
+    closed-both day (bookAfter calls .today) (omega arith) ∙ ap (ltb day) t ∙ sym (closed-past h day)
+
+-- So the row call gives figures exactly for the days closed by the accepted calls.
+pub closed-given : ClosedDaysAreGiven
+unfolding rowAnswer
+closed-given calls day category nine =
+    rw (le-leb category categoryCount nine, closed-same calls day) (cond-not (closed (acceptedOf calls) day) _ _)

@@ -1,7 +1,6 @@
 -- No sum reaches its cap: the pairs together give so little on a day that each total, also over all days, is the plain
 -- sum of what settled and what failed. Assumes nothing.
-use Prim.Native.Nat.{ℕ, zero, suc, _+_, _*_, _≤_, _<_}
-use native.Mathlib.Nat.{suc-mul}
+use Prim.Native.Nat.{ℕ, _+_, _*_, _≤_, _<_}
 use native.Mathlib.Omega.{arith}
 use mathlib.Core.Path.{_≡_}
 use mathlib.Core.List.{List}
@@ -13,6 +12,7 @@ use Rattle.book.specs.History.{Measure, number, value, counts}
 use Rattle.book.specs.Balance.{bookAfter, acceptedOf, inMeasure, failsOf}
 use Rattle.book.specs.Counted.{isdValue}
 use Rattle.book.specs.Exact.{most, sumFrom, totalOn, Exact, NoCapReached}
+use Rattle.book.proofs.Theorems.Sums.{sum-times}
 use Rattle.book.proofs.Theorems.Lived.{settledIn, failsIn}
 use Rattle.book.proofs.Theorems.Run.{kept}
 use Rattle.book.proofs.Theorems.Bounds.{isd-in-fails}
@@ -23,12 +23,13 @@ use Rattle.book.proofs.Theorems.Demand3.{settled-row, fails-row}
 
 module _ (calls : List Call) where
   -- what settled and what failed, added up
-  abbrev plain : Measure → ℕ → ℕ → ℕ
-  plain m day category = inMeasure m (rowOf (bookAfter calls) day category .settled) + failsOf m (rowOf (bookAfter calls)) day category
+  abbrev pub parts : Measure → ℕ → ℕ → ℕ
+  parts m day category =
+      inMeasure m (rowOf (bookAfter calls) day category .settled) + failsOf m (rowOf (bookAfter calls)) day category
 
   -- that is no more than the most of a row
-  plain-most : (m : Measure) (day category : ℕ) → day < dayLimit → category ≤ 9 → plain m day category ≤ most m
-  plain-most m day category l nine =
+  pub parts-most : (m : Measure) (day category : ℕ) → day < dayLimit → category ≤ 9 → parts m day category ≤ most m
+  parts-most m day category l nine =
       let s = settled-row calls m category nine day l in
       let f = fails-row calls m category nine day l in
       let a = counted-add (settledIn m) (failsIn m) (λ e. counts category (e .category)) (acceptedOf calls) day in
@@ -37,15 +38,15 @@ module _ (calls : List Call) where
 
   -- so it is the total of the row
   totals : (m : Measure) (day category : ℕ) → day < dayLimit → category ≤ 9
-      → totalOn m (bookAfter calls) category day ≡ plain m day category
-  totals number day category l nine = let a = plain-most number day category l nine in omega arith
-  totals value day category l nine = let a = plain-most value day category l nine in omega arith
+      → totalOn m (bookAfter calls) category day ≡ parts m day category
+  totals number day category l nine = let a = parts-most number day category l nine in omega arith
+  totals value day category l nine = let a = parts-most value day category l nine in omega arith
 
   -- the total of a row is no more than the most
   rows-most : (m : Measure) (day category : ℕ) → day < dayLimit → category ≤ 9
       → totalOn m (bookAfter calls) category day ≤ most m
   rows-most m day category l nine =
-      let a = plain-most m day category l nine in
+      let a = parts-most m day category l nine in
       let b = totals m day category l nine in
       omega arith
 
@@ -63,12 +64,8 @@ module _ (calls : List Call) where
   -- the totals of n days are no more than n times the most
   runs-most : (m : Measure) (category first n : ℕ) → first + n ≤ dayLimit → category ≤ 9
       → sumFrom (totalOn m (bookAfter calls) category) first n ≤ n * most m
-  runs-most m category first zero l nine = omega arith
-  runs-most m category first (suc n) l nine =
-      let a = rows-most m first category (omega arith) nine in
-      let i = runs-most m category (suc first) n (omega arith) nine in
-      let s = suc-mul n (most m) in
-      omega arith
+  runs-most m category first n l nine =
+      sum-times _ (most m) first n (λ day low high. rows-most m day category (omega arith) nine)
 
   -- the sums of the book are exact
   exact : Exact (bookAfter calls)

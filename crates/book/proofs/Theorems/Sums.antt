@@ -1,13 +1,15 @@
--- Sums over lists, by induction on the list, and what a test says of its numbers. Assumes nothing.
+-- Sums over lists and over runs of numbers, by induction on the list and on the run, and what a test says of its numbers.
+-- Assumes nothing.
 use Prim.Native.Nat.{ℕ, zero, suc, _+_, _*_, _≤_, _<_, zero-le}
 use native.Mathlib.Nat.{not-suc-le-zero, le-of-suc-le-suc, le-refl, suc-mul}
 use native.Mathlib.Omega.{arith}
-use mathlib.Core.Path.{_≡_, refl, sym}
+use mathlib.Core.Path.{_≡_, refl, sym, ap, ap₂, _∙_}
 use mathlib.Core.Bool.{Bool, true, false, cond, _&&_, _||_}
 use mathlib.Core.List.{List, [], _∷_, _++_}
 use lib.ListN.{length, getD, set, replicate}
 use borrow.Author.Tests.{ltb-true, ltb-false, leb-true, leb-false, eqb-true, eqb-false}
-use Rattle.book.specs.Sums.{only, total, All}
+use Rattle.book.specs.Sums.{only, capped, total, All}
+use Rattle.book.specs.Exact.{sumFrom}
 
 -- what a test says of its numbers, for omega
 pub ruleset tests = (ltb-true, ltb-false, leb-true, leb-false, eqb-true, eqb-false)
@@ -55,7 +57,7 @@ pub only-swap : (s t : Bool) (n : ℕ) → only s (only t n) ≡ only t (only s 
 only-swap true t n = refl
 only-swap false t n = sym (only-zero t)
 
--- ---- sums
+-- ---- sums over a list
 
 module _ {A : Type 0} where
   -- equal weights have equal sums
@@ -129,12 +131,14 @@ module _ {A : Type 0} where
   all-append P (x ∷ l) r a b = (a .0, all-append P l r (a .1) b)
 
   -- weights that are equal by it have equal sums
-  pub total-all : (P : A → Type 0) (w v : A → ℕ) → ((x : A) → P x → w x ≡ v x) → (l : List A) → All P l → total w l ≡ total v l
+  pub total-all : (P : A → Type 0) (w v : A → ℕ) → ((x : A) → P x → w x ≡ v x) → (l : List A) → All P l
+      → total w l ≡ total v l
   total-all P w v h [] a = refl
   total-all P w v h (x ∷ l) a = let i = total-all P w v h l (a .1) in let j = h x (a .0) in omega arith
 
   -- the weight that is larger by it has the larger sum
-  pub total-all-le : (P : A → Type 0) (w v : A → ℕ) → ((x : A) → P x → w x ≤ v x) → (l : List A) → All P l → total w l ≤ total v l
+  pub total-all-le : (P : A → Type 0) (w v : A → ℕ) → ((x : A) → P x → w x ≤ v x) → (l : List A) → All P l
+      → total w l ≤ total v l
   total-all-le P w v h [] a = le-refl 0
   total-all-le P w v h (x ∷ l) a = let i = total-all-le P w v h l (a .1) in let j = h x (a .0) in omega arith
 
@@ -142,3 +146,83 @@ module _ {A : Type 0} where
   pub total-times : (w : A → ℕ) (k : ℕ) (l : List A) → All (λ x. w x ≤ k) l → total w l ≤ length l * k
   total-times w k [] a = omega arith
   total-times w k (x ∷ l) a = let i = total-times w k l (a .1) in let j = a .0 in let s = suc-mul (length l) k in omega arith
+
+-- ---- sums over a run of n numbers from the first on
+
+-- what holds of each of them
+abbrev pub Each : ℕ → ℕ → (ℕ → Type 0) → Type 0
+Each first n Fact = (k : ℕ) → first ≤ k → k < first + n → Fact k
+
+-- what holds of each holds of each behind the first
+each-later : (first n : ℕ) (Fact : ℕ → Type 0) → Each first (suc n) Fact → Each (suc first) n Fact
+each-later first n Fact each k low high = each k (omega arith) (omega arith)
+
+-- what holds of each holds of the first
+each-first : (first n : ℕ) (Fact : ℕ → Type 0) → Each first (suc n) Fact → Fact first
+each-first first n Fact each = each first (le-refl first) (omega arith)
+
+-- f from a on and g from the first on have the same sum, where f is g at numbers that lie as far behind the two
+pub sum-moved : (f g : ℕ → ℕ) (a first n : ℕ) → Each first n (λ k. (j : ℕ) → j + first ≡ a + k → f j ≡ g k)
+    → sumFrom f a n ≡ sumFrom g first n
+sum-moved f g a first zero each = refl
+sum-moved f g a first (suc n) each =
+    let now = each-first first n _ each a refl in
+    let later = sum-moved f g (suc a) (suc first) n (λ k low high j far. each k (omega arith) (omega arith) j (omega arith)) in
+    omega arith
+
+-- what is the same for each has the same sum
+pub sum-same : (f g : ℕ → ℕ) (first n : ℕ) → Each first n (λ k. f k ≡ g k) → sumFrom f first n ≡ sumFrom g first n
+sum-same f g first n each =
+    sum-moved f g first first n (λ k low high j far. let own : j ≡ k = omega arith in ap f own ∙ each k low high)
+
+-- what is the sum of two others for each is so over the run
+pub sum-add : (f g h : ℕ → ℕ) (first n : ℕ) → Each first n (λ k. f k ≡ g k + h k)
+    → sumFrom f first n ≡ sumFrom g first n + sumFrom h first n
+sum-add f g h first zero each = refl
+sum-add f g h first (suc n) each =
+    let now = each-first first n _ each in
+    let later = sum-add f g h (suc first) n (each-later first n _ each) in
+    omega arith
+
+-- what is at most another for each is so over the run
+pub sum-le : (f g : ℕ → ℕ) (first n : ℕ) → Each first n (λ k. f k ≤ g k) → sumFrom f first n ≤ sumFrom g first n
+sum-le f g first zero each = le-refl 0
+sum-le f g first (suc n) each =
+    let now = each-first first n _ each in
+    let later = sum-le f g (suc first) n (each-later first n _ each) in
+    omega arith
+
+-- one number n times is n times the number
+sum-of-one : (k first n : ℕ) → sumFrom (λ j. k) first n ≡ n * k
+sum-of-one k first zero = omega arith
+sum-of-one k first (suc n) = let i = sum-of-one k (suc first) n in let s = suc-mul n k in omega arith
+
+-- what is at most k for each is at most n times k over the run
+pub sum-times : (f : ℕ → ℕ) (k first n : ℕ) → Each first n (λ j. f j ≤ k) → sumFrom f first n ≤ n * k
+sum-times f k first n each = let most = sum-le f (λ j. k) first n each in let all = sum-of-one k first n in omega arith
+
+-- the sum over a run is that over its first n numbers and that over the m from b on
+sum-split : (f : ℕ → ℕ) (first b n m all : ℕ) → all ≡ n + m → b ≡ first + n
+    → sumFrom f first all ≡ sumFrom f first n + sumFrom f b m
+sum-split f first b zero m all whole behind =
+    let from : first ≡ b = omega arith in
+    let left : all ≡ m = omega arith in
+    let rest = ap₂ (sumFrom f) from left in
+    omega arith
+sum-split f first b (suc n) m zero whole behind = absurd (omega arith)
+sum-split f first b (suc n) m (suc all) whole behind =
+    let later = sum-split f (suc first) b n m all (omega arith) (omega arith) in omega arith
+
+-- a run of n times so many numbers is the sum of n runs of so many
+pub sum-of-runs : (f : ℕ → ℕ) (many first n : ℕ)
+    → sumFrom f (many * first) (many * n) ≡ sumFrom (λ k. sumFrom f (many * k) many) first n
+sum-of-runs f many first zero = let none : many * 0 ≡ 0 = omega arith in ap (sumFrom f (many * first)) none
+sum-of-runs f many first (suc n) =
+    let split = sum-split f (many * first) (many * suc first) many (many * n) (many * suc n) (omega arith) (omega arith) in
+    let later = sum-of-runs f many (suc first) n in
+    omega arith
+
+-- up to the cap, a sum is that of its numbers up to the cap
+pub sum-of-capped : (f : ℕ → ℕ) (first n : ℕ) → capped (sumFrom (λ k. capped (f k)) first n) ≡ capped (sumFrom f first n)
+sum-of-capped f first zero = refl
+sum-of-capped f first (suc n) = let later = sum-of-capped f (suc first) n in omega arith

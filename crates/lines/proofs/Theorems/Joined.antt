@@ -1,11 +1,10 @@
--- Numbers put as a line, field by field: a line is its first field, the byte behind it and the line of the other fields.
--- Assumes nothing.
-use Prim.Native.Nat.{ℕ, suc, _+_, _≤_, _<_}
+-- A line is its first field, the byte behind it and the line of the other fields. Assumes nothing.
+use Prim.Native.Nat.{ℕ, suc, _+_, _<_}
 use native.Mathlib.Omega.{arith}
-use mathlib.Core.Path.{_≡_, refl, sym, _∙_, ap}
-use mathlib.Core.List.{List, [], _∷_, _++_, map, append-nil, append-assoc}
+use mathlib.Core.Path.{_≡_, refl, sym, ap}
+use mathlib.Core.List.{List, [], _∷_, _++_, map, append-nil}
 use mathlib.Core.Bool.{cond}
-use lib.ListN.{length, getD, drop, length-append, length-drop, drop-of-length-le}
+use lib.ListN.{length, getD, drop, length-append, length-drop}
 use lib.Seq.{drop-cons, append-snoc}
 use lib.Dec.{ltb}
 use borrow.Author.Tests.{lt-ltb, le-ltb}
@@ -13,11 +12,9 @@ use Rattle.book.specs.Sums.{total}
 use Rattle.lines.specs.Bytes.{comma, lineFeed}
 use Rattle.lines.specs.Decimal.{decimal}
 use Rattle.lines.specs.Grammar.{behind, joined}
-use Rattle.lines.specs.Writing.{Put}
-use Rattle.lines.proofs.Theorems.Buffers.{put-then}
 
 -- the byte behind a field of a line, `done` being how many fields there are up to and including it
-abbrev separatorOf : ℕ → List ℕ → ℕ
+abbrev pub separatorOf : ℕ → List ℕ → ℕ
 separatorOf done fields = cond (ltb done (length fields)) comma lineFeed
 
 -- a first field, the byte behind it and the line of the other fields
@@ -29,7 +26,7 @@ joined-first n (m ∷ ms) done fields e =
     rw (lt-ltb done (length fields) (omega arith)) (sym (append-snoc (decimal n) comma (joined (m ∷ ms))))
 
 -- the same of the fields from `i` on
-joined-from : (fields : List ℕ) (i : ℕ) → i < length fields
+pub joined-from : (fields : List ℕ) (i : ℕ) → i < length fields
     → joined (drop i fields)
     ≡ decimal (getD fields i 0) ++ (separatorOf (i + 1) fields ∷ []) ++ joined (drop (i + 1) fields)
 joined-from fields i h =
@@ -51,29 +48,3 @@ joined-length number (x ∷ l) =
     let field = length-append (decimal n) byte in
     let others = joined-length number l in
     omega arith
-
--- the fields of a line in front of field `i` are put, each with the byte behind it
-abbrev pub PutUpTo : List ℕ → ℕ → List ℕ → ℕ → ℕ → List ℕ → Type 0
-PutUpTo before at fields i r after =
-    (bytes : List ℕ) × Put before at bytes r after × (bytes ++ joined (drop i fields) ≡ joined fields)
-
--- then the next one, and the byte behind it
-pub put-field : (before middle next after fields : List ℕ) (at r s q i byte : ℕ) → i < length fields
-    → byte ≡ separatorOf (i + 1) fields → PutUpTo before at fields i r middle
-    → Put middle r (decimal (getD fields i 0)) s next → Put next s (byte ∷ []) q after
-    → PutUpTo before at fields (i + 1) q after
-put-field before middle next after fields at r s q i byte h e up number last =
-    let field = decimal (getD fields i 0) ++ (byte ∷ []) in (
-      up .0 ++ field,
-      put-then before middle after at r q (up .0) field (up .1)
-          (put-then middle next after r s q (decimal (getD fields i 0)) (byte ∷ []) number last),
-      append-assoc (up .0) field (joined (drop (i + 1) fields)) ∙ rw (e, ← joined-from fields i h) (up .2),
-    )
-
--- and with no field left, the line
-pub put-fields : (before after fields : List ℕ) (at r i : ℕ) → length fields ≤ i → PutUpTo before at fields i r after
-    → Put before at (joined fields) r after
-unfolding joined
-put-fields before after fields at r i h up =
-    let all : joined (drop i fields) ≡ [] = ap joined (drop-of-length-le fields h) in
-    rw (← up .2, all, append-nil (up .0)) (up .1)

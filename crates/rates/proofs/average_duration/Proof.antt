@@ -1,7 +1,6 @@
 -- `average_duration` meets its contract: its steps are those of `steps-round` with the factor 100. Assumes nothing.
 use borrow.Author.Needs.{needs}
 use borrow.Author.Tests.{eq-eqb, ne-eqb}
-use native.Mathlib.Nat.{mod-lt}
 use native.Mathlib.Omega.{arith}
 use mathlib.Core.Path.{ap}
 use mathlib.Core.Option.{some}
@@ -18,11 +17,12 @@ returns-2 : tie.Need-returns-2
 unfolding duration
 returns-2 c =
     let scaled = c .before .before in
-    let test = scaled .before in
+    let part = scaled .before in
+    let test = part .before in
     rw (ne-eqb _ _ (test .if1 .left))
     (ap some
     (steps-round _ 100 _ _ _ _ (omega (arith, test .if1 .left))
-    (omega (arith, scaled .hundredfold .ensures .product))
+    (omega (arith, scaled .hundredfold .ensures .product, part .of-remainder .ensures .left))
     (c .before .rounded .ensures)
     (c .capped-scaled .ensures)))
 
@@ -31,8 +31,8 @@ average-duration-spec =
     tie.close
     (tie.spec
     returns
-    (λ c. search needs)
-    (λ c κs. (mod-lt _ (search needs), search needs))
+    (λ c κs. search needs)
+    (λ c κs. search needs)
     (λ c. search needs)
     (λ c κs. search needs)
     (λ c κs. search needs)

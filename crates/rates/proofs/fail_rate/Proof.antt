@@ -2,7 +2,6 @@
 -- Assumes nothing.
 use borrow.Author.Needs.{needs}
 use borrow.Author.Tests.{eq-eqb, ne-eqb}
-use native.Mathlib.Nat.{mod-lt}
 use native.Mathlib.Omega.{arith}
 use Rattle.rates.specs.Rate.{rate}
 use Rattle.rates.proofs.Rounding.{steps-round}
@@ -17,10 +16,12 @@ returns-2 : tie.Need-returns-2
 unfolding rate
 returns-2 c =
     let scaled = c .before .before in
-    let test = scaled .before .before in
+    let once = scaled .before in
+    let part = once .before in
+    let test = part .before in
     rw (ne-eqb _ _ (test .if1 .left))
     (steps-round _ 10000 _ _ _ _ (omega (arith, test .if1 .left))
-    (omega (arith, scaled .hundredfold2 .ensures .product, scaled .before .hundredfold .ensures .product))
+    (omega (arith, scaled .hundredfold2 .ensures .product, once .hundredfold .ensures .product, part .of-remainder .ensures .left))
     (c .before .rounded .ensures)
     (c .capped-scaled .ensures))
 
@@ -29,8 +30,8 @@ fail-rate-spec =
     tie.close
     (tie.spec
     returns
-    (λ c. search needs)
-    (λ c κs. (mod-lt _ (search needs), search needs))
+    (λ c κs. search needs)
+    (λ c κs. search needs)
     (λ c κs. search needs)
     (λ c. search needs)
     (λ c κs. search needs)

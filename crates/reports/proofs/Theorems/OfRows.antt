@@ -3,7 +3,7 @@
 -- Assumes nothing.
 use borrow.Author.Tests.{ltb-true, ltb-false, leb-true, not-false, le-leb, lt-ltb}
 use native.Mathlib.Omega.{arith}
-use Prim.Native.Nat.{ℕ, suc, _+_, _-_, _≤_, _<_}
+use Prim.Native.Nat.{ℕ, suc, _-_, _≤_, _<_}
 use mathlib.Core.Path.{_≡_, refl, ap, _∙_}
 use mathlib.Core.Bool.{Bool, true, false, not, cond}
 use lib.Dec.{leb}
@@ -12,12 +12,19 @@ use Rattle.book.specs.declared.cells.Figure.{Figure}
 use Rattle.book.specs.declared.book.Book.{Book}
 use Rattle.book.specs.declared.rows.Row.{Row}
 use Rattle.book.specs.Limits.{dayLimit, categoryCount}
-use Rattle.book.specs.Rows.{rowOf, rowAnswer}
+use Rattle.book.specs.Rows.{rowOf, refusedBy, figures, rowAnswer}
 use Rattle.book.specs.Exact.{sumFrom}
-use Rattle.book.proofs.Theorems.Sums.{clash, and-true, or-false}
-use Rattle.book.proofs.Theorems.Counting.{sum-same}
-use Rattle.reports.specs.Reports.{Reported, sumOf, sumsOf, reportFrom, reportOf}
-use Rattle.reports.specs.Reports.{refusedBy, figures, notGiven, reportAnswer}
+use Rattle.book.proofs.Theorems.Sums.{clash, and-true, or-false, Each, sum-same}
+use Rattle.reports.specs.Reports.{
+  Reported,
+  sumOf,
+  sumsOf,
+  reportFrom,
+  reportOf,
+  rowsOf,
+  daysRefused,
+  reportAnswer,
+}
 use Rattle.reports.specs.OfRows.{RowsAreGiven, ReportsAreOfRows}
 
 -- ---- where a report is given
@@ -28,7 +35,7 @@ pub record IsGiven (b : Book) (first last category : ℕ) (r : Reported) : Type 
   pub in-order : first ≤ last
   pub past : last < b .today
   pub running : last < dayLimit
-  pub report : r ≡ reportOf capped (λ day. rowOf b day category) first last
+  pub report : r ≡ reportOf capped (rowsOf b category) first last
 
 -- A refusal is no report.
 not-figures : {A : Type 0} {n : ℕ} {r : Reported} → refusedBy n ≡ figures r → A
@@ -38,11 +45,11 @@ not-figures h = clash {t = true} refl (cc)
 pub is-given : (b : Book) (first last category : ℕ) (r : Reported) → reportAnswer b first last category ≡ figures r
     → IsGiven b first last category r
 unfolding reportAnswer
-is-given b first last category r = go (leb category categoryCount) (notGiven b first last) refl refl
+is-given b first last category r = go (leb category categoryCount) (daysRefused b first last) refl refl
   where
-    go : (small refused : Bool) → leb category categoryCount ≡ small → notGiven b first last ≡ refused
+    go : (small refused : Bool) → leb category categoryCount ≡ small → daysRefused b first last ≡ refused
         → cond (not small) (refusedBy 2)
-        (cond refused (refusedBy 9) (figures (reportOf capped (λ day. rowOf b day category) first last)))
+        (cond refused (refusedBy 9) (figures (reportOf capped (rowsOf b category) first last)))
         ≡ figures r
         → IsGiven b first last category r
     go false refused s n h = not-figures h
@@ -68,8 +75,7 @@ rows-are-given b first last category day r h from to =
 
 -- ---- the sums of rows that are the same on each day
 
-module _ (rows others : ℕ → Row) (first n : ℕ)
-    (same : (day : ℕ) → first ≤ day → day < first + n → rows day ≡ others day) where
+module _ (rows others : ℕ → Row) (first n : ℕ) (same : Each first n (λ day. rows day ≡ others day)) where
   -- of a number in them
   sum-of-same : (of : Row → ℕ) → sumFrom (λ day. of (rows day)) first n ≡ sumFrom (λ day. of (others day)) first n
   sum-of-same of = sum-same _ _ first n (λ day from to. ap of (same day from to))

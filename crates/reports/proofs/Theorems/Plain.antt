@@ -2,27 +2,33 @@
 -- of days, as on each of them, total is settled and fails together and ISD value is a part of the fails, and a hundred times
 -- the total is of 64 bits. So each sum is stored as it is, no rate is over 100%, and a duration is a day at the least and
 -- stored as it is. Assumes nothing.
-use Prim.Native.Nat.{ℕ, zero, suc, _+_, _-_, _*_, _≤_, _<_}
-use native.Mathlib.Nat.{le-refl}
+use Prim.Native.Nat.{ℕ, suc, _+_, _-_, _*_, _≤_}
 use native.Mathlib.Omega.{arith}
 use mathlib.Core.Path.{_≡_, refl, sym, ap, ap₂, _∙_, subst}
+use mathlib.Core.Bool.{Bool, true, false, cond, not, _||_}
 use mathlib.Core.List.{List}
 use mathlib.Core.Option.{Option, none, some, Option·map}
+use lib.Dec.{ltb}
+use borrow.Author.Tests.{le-leb}
 use Rattle.rates.specs.Stored.{largestStored, capped}
 use Rattle.rates.specs.Rate.{rate, duration}
-use Rattle.rates.proofs.Bounds.{rate-most, duration-bounds}
+use Rattle.rates.proofs.RateBounds.{rate-most, duration-bounds}
 use Rattle.book.specs.declared.calls.Call.{Call}
 use Rattle.book.specs.declared.cells.Figure.{Figure}
+use Rattle.book.specs.declared.book.Book.{Book}
 use Rattle.book.specs.declared.rows.Row.{Row}
 use Rattle.book.specs.Limits.{dayLimit, categoryCount}
-use Rattle.book.specs.Rows.{rowOf}
+use Rattle.book.specs.Rows.{rowOf, refusedBy, figures}
 use Rattle.book.specs.History.{Measure, number, value}
 use Rattle.book.specs.Balance.{bookAfter, inMeasure, failsOf}
 use Rattle.book.specs.Counted.{Column, settled, securities, cash, isdValue, column}
 use Rattle.book.specs.Exact.{sumFrom, Exact}
-use Rattle.book.proofs.Theorems.Counting.{rows-lives, sum-same}
+use Rattle.book.proofs.Theorems.Sums.{sum-same, sum-add, sum-le}
+use Rattle.book.proofs.Theorems.Counting.{rows-lives}
+use Rattle.book.proofs.Theorems.Demand3.{closed-same}
 use Rattle.book.proofs.Theorems.Exactness.{no-cap-reached}
 use Rattle.reports.specs.Reports.{
+  Reported,
   plain,
   sumOf,
   sumsOf,
@@ -31,8 +37,11 @@ use Rattle.reports.specs.Reports.{
   durationIn,
   reportFrom,
   reportOf,
+  rowsOf,
+  daysRefused,
+  reportAnswer,
 }
-use Rattle.reports.specs.Plain.{partsOf, countedOn, countedOver, PlainReport, PlainReports}
+use Rattle.reports.specs.Plain.{partsOf, countedOn, countedOver, PlainReport, PlainReports, ReportsFromCalls}
 use Rattle.reports.proofs.Theorems.OfRows.{is-given}
 
 -- ---- numbers stored as they are
@@ -58,27 +67,6 @@ sum-stored f first n fits =
     ap₂ (λ (number value : ℕ). record { number = number; value = value }) (stored _ (fits number)) (stored _ (fits value))
 
 -- ---- sums over a run of days
-
--- what holds on each of n days from the first on
-abbrev EachDay : ℕ → ℕ → (ℕ → Type 0) → Type 0
-EachDay first n Fact = (day : ℕ) → first ≤ day → day < first + n → Fact day
-
--- What is the sum of two others on each day is so over the run.
-sums-add : (f g h : ℕ → ℕ) (first n : ℕ) → EachDay first n (λ day. f day ≡ g day + h day)
-    → sumFrom f first n ≡ sumFrom g first n + sumFrom h first n
-sums-add f g h first zero each = refl
-sums-add f g h first (suc n) each =
-    let now = each first (le-refl first) (omega arith) in
-    let later = sums-add f g h (suc first) n (λ day low high. each day (omega arith) (omega arith)) in
-    omega arith
-
--- What is at most another on each day is so over the run.
-sums-le : (f g : ℕ → ℕ) (first n : ℕ) → EachDay first n (λ day. f day ≤ g day) → sumFrom f first n ≤ sumFrom g first n
-sums-le f g first zero each = le-refl 0
-sums-le f g first (suc n) each =
-    let now = each first (le-refl first) (omega arith) in
-    let later = sums-le f g (suc first) n (λ day low high. each day (omega arith) (omega arith)) in
-    omega arith
 
 -- The sum of a figure, in number or in value, is the sum of its numbers or values.
 sum-in : (m : Measure) (f : ℕ → Figure) (first n : ℕ)
@@ -173,7 +161,7 @@ module _ (calls : List Call) (category first n : ℕ) (nine : category ≤ categ
   run-fails : (m : Measure) → failsIn plain m (sumsOf plain rows first n) ≡ sumFrom (fails m) first n
   unfolding sumsOf
   run-fails m =
-      let both = sums-add (fails m) (λ day. inMeasure m (rows day .securities)) _ first n (λ day low high. refl) in
+      let both = sum-add (fails m) (λ day. inMeasure m (rows day .securities)) _ first n (λ day low high. refl) in
       omega (arith, sum-in m (λ day. rows day .securities) first n, sum-in m (λ day. rows day .cash) first n)
 
   -- Total is settled and fails together.
@@ -182,7 +170,7 @@ module _ (calls : List Call) (category first n : ℕ) (nine : category ≤ categ
       ≡ inMeasure m (sumsOf plain rows first n .settled) + failsIn plain m (sumsOf plain rows first n)
   unfolding sumsOf
   run-totals m =
-      let both = sums-add _ _ (fails m) first n (λ day low high. exact .totals m day category (omega arith) nine) in
+      let both = sum-add _ _ (fails m) first n (λ day low high. exact .totals m day category (omega arith) nine) in
       omega
       (arith, run-fails m, sum-in m (λ day. rows day .total) first n, sum-in m (λ day. rows day .settled) first n)
 
@@ -196,7 +184,7 @@ module _ (calls : List Call) (category first n : ℕ) (nine : category ≤ categ
   run-isd : sumsOf plain rows first n .«isd_value» ≤ failsIn plain value (sumsOf plain rows first n)
   unfolding sumsOf
   run-isd =
-      let part = sums-le _ (fails value) first n (λ day low high. exact .isdValues day category (omega arith) nine) in
+      let part = sum-le _ (fails value) first n (λ day low high. exact .isdValues day category (omega arith) nine) in
       omega (arith, run-fails value)
 
   -- Each sum is what the pairs' own calls give on the days of the run.
@@ -215,9 +203,9 @@ module _ (calls : List Call) (category first n : ℕ) (nine : category ≤ categ
 
 -- The report of plain sums is such a one.
 plain-report : (calls : List Call) (first last category : ℕ)
-    → let sums = sumsOf plain (λ day. rowOf (bookAfter calls) day category) first (suc last - first) in
+    → let sums = sumsOf plain (rowsOf (bookAfter calls) category) first (suc last - first) in
     RunSums sums → ((figure : Column) → column figure (partsOf sums) ≡ countedOver calls category figure first last)
-    → PlainReport calls first last category (reportOf plain (λ day. rowOf (bookAfter calls) day category) first last)
+    → PlainReport calls first last category (reportOf plain (rowsOf (bookAfter calls) category) first last)
 unfolding reportFrom
 plain-report calls first last category known sums = record {
   formulas = refl;
@@ -237,3 +225,30 @@ plain-reports calls first last category r given =
     let sums = run-counted calls category first days (run .in-range) inside in
     let same = run .report ∙ ap (reportFrom capped) (sums-stored _ first _ known) ∙ report-stored _ known in
     subst (PlainReport calls first last category) (sym same) (plain-report calls first last category known sums)
+
+-- What comes back for a category in range, by the days alone.
+by-days : (b : Book) (first last category : ℕ) (refused : Bool) → category ≤ categoryCount
+    → daysRefused b first last ≡ refused
+    → reportAnswer b first last category
+    ≡ cond refused (refusedBy 9) (figures (reportOf capped (rowsOf b category) first last))
+unfolding reportAnswer
+by-days b first last category refused nine same = rw (le-leb _ _ nine, same)
+
+-- Which report is given, and its figures, from the calls and their answers.
+pub reports-from-calls : ReportsFromCalls
+reports-from-calls calls first last category nine =
+    go (daysRefused b first last) refl
+    ∙ ap (λ (closed : Bool). cond (ltb last first || not closed) (refusedBy 9) (figures plainOne)) (closed-same calls last)
+  where
+    b : Book
+    b = bookAfter calls
+
+    plainOne : Reported
+    plainOne = reportOf plain (rowsOf b category) first last
+
+    go : (refused : Bool) → daysRefused b first last ≡ refused
+        → reportAnswer b first last category ≡ cond (daysRefused b first last) (refusedBy 9) (figures plainOne)
+    go true same = by-days b first last category true nine same ∙ rw same
+    go false same =
+        let given = by-days b first last category false nine same in
+        given ∙ ap figures (plain-reports calls first last category _ given .formulas) ∙ rw same

@@ -1,64 +1,49 @@
 -- The row of cells added up is the sums of their rows, up to the cap: each number of a row, the total too, is 0 for the
--- empty cell and is added where cells are, and every such number adds up over days and over categories. Assumes nothing.
-use Prim.Native.Nat.{ℕ, zero, suc, _+_}
+-- empty cell and is added where cells are, and every such number adds up over days, and over the nine places of a day.
+-- Assumes nothing.
+use Prim.Native.Nat.{ℕ, zero, suc, _+_, _*_, _≤_, _<_}
 use native.Mathlib.Omega.{arith}
-use mathlib.Core.Path.{_≡_, refl, ap, _∙_}
+use mathlib.Core.Path.{_≡_, refl, sym, ap, _∙_}
 use mathlib.Core.List.{List}
+use lib.ListN.{getD}
 use Rattle.rates.specs.Stored.{capped}
 use Rattle.book.specs.declared.cells.Figure.{Figure}
 use Rattle.book.specs.declared.cells.Cell.{Cell}
-use Rattle.book.specs.Limits.{categoryCount}
-use Rattle.book.specs.Figures.{nothing, none, cellAt, addFigure, addCell}
+use Rattle.book.specs.Limits.{dayLimit, categoryCount}
+use Rattle.book.specs.Figures.{nothing, none, place, cellAt, addFigure, addCell}
 use Rattle.book.specs.Rows.{cellsFrom, cellOf, rowFrom}
 use Rattle.book.specs.Exact.{sumFrom}
+use Rattle.book.proofs.Theorems.Sums.{Each, sum-moved, sum-same, sum-of-runs, sum-of-capped}
+use Rattle.book.proofs.Theorems.Cells.{AddsUp, sum-of-cells}
 use Rattle.reports.specs.Reports.{sumOf, sumsOf}
-use Rattle.reports.specs.CellSums.{addedFrom, categorySum, allSum}
+use Rattle.reports.specs.CellSums.{categorySum, allSum}
 
 -- ---- a number that is read off a cell
 
--- it is added, up to the cap, where cells are
-record AddsUp (read : Cell → ℕ) : Type 0 where
-  empty : read none ≡ 0
-  added : (a b : Cell) → read (addCell a b) ≡ capped (read a + read b)
+module _ (read : Cell → ℕ) (adds : AddsUp read) (cells : List Cell) where
+  -- what it is at a place
+  abbrev at-place : ℕ → ℕ
+  at-place at = read (getD cells at none)
 
-module _ (read : Cell → ℕ) (adds : AddsUp read) where
-  -- of cells added up it is the sum of theirs, up to the cap
-  sum-of-cells : (cell : ℕ → Cell) (first n : ℕ)
-      → read (addedFrom cell first n) ≡ capped (sumFrom (λ k. read (cell k)) first n)
-  unfolding addedFrom
-  sum-of-cells cell first zero = adds .empty
-  sum-of-cells cell first (suc n) =
-      let a = adds .added (cell first) (addedFrom cell (suc first) n) in
-      let i = sum-of-cells cell (suc first) n in
-      omega arith
+  -- over the places of a day it sums to what it is for the nine cells together, up to the cap
+  sum-of-day : (day : ℕ) → day < dayLimit
+      → capped (sumFrom at-place (categoryCount * day) categoryCount) ≡ read (cellsFrom categoryCount 1 cells day)
+  unfolding place
+  sum-of-day day running =
+      ap capped (sum-moved at-place (λ c. read (cellAt cells day c)) (categoryCount * day) 1 categoryCount own)
+      ∙ sym (sum-of-cells read adds (cellAt cells day) 1 categoryCount)
+    where
+      own : Each 1 categoryCount (λ c. (at : ℕ) → at + 1 ≡ categoryCount * day + c → at-place at ≡ read (cellAt cells day c))
+      own c low high at far = let there : at ≡ place day c = omega arith in ap at-place there
 
-  -- over days of the empty cell it sums to 0
-  sum-of-none : (first days : ℕ) → sumFrom (λ day. read none) first days ≡ 0
-  sum-of-none first zero = refl
-  sum-of-none first (suc days) = let e = adds .empty in let i = sum-of-none (suc first) days in omega arith
-
-  -- over days of two cells added it sums to the sums of both, up to the cap
-  sum-of-two : (a b : ℕ → Cell) (first days : ℕ)
-      → capped (sumFrom (λ day. read (addCell (a day) (b day))) first days)
-      ≡ capped (sumFrom (λ day. read (a day)) first days + sumFrom (λ day. read (b day)) first days)
-  sum-of-two a b first zero = refl
-  sum-of-two a b first (suc days) =
-      let s = adds .added (a first) (b first) in
-      let i = sum-of-two a b (suc first) days in
-      omega arith
-
-  -- of the sums of n categories added up it is the sum over the days of their cells together, up to the cap
-  sum-of-categories : (cells : List Cell) (first days n c : ℕ)
-      → read (addedFrom (categorySum cells first days) c n)
-      ≡ capped (sumFrom (λ day. read (cellsFrom n c cells day)) first days)
-  unfolding addedFrom
-  sum-of-categories cells first days zero c = let e = adds .empty in let z = sum-of-none first days in omega arith
-  sum-of-categories cells first days (suc n) c =
-      let a = adds .added (categorySum cells first days c) (addedFrom (categorySum cells first days) (suc c) n) in
-      let own = sum-of-cells (λ day. cellAt cells day c) first days in
-      let i = sum-of-categories cells first days n (suc c) in
-      let s = sum-of-two (λ day. cellAt cells day c) (cellsFrom n (suc c) cells) first days in
-      omega arith
+  -- of the cells of all nine categories added up it is the sum over the days of the nine together, up to the cap
+  sum-of-days : (first days : ℕ) → first + days ≤ dayLimit
+      → read (allSum cells first days) ≡ capped (sumFrom (λ day. read (cellsFrom categoryCount 1 cells day)) first days)
+  sum-of-days first days inside =
+      sum-of-cells read adds (λ at. getD cells at none) (categoryCount * first) (categoryCount * days)
+      ∙ ap capped (sum-of-runs at-place categoryCount first days)
+      ∙ sym (sum-of-capped (λ day. sumFrom at-place (categoryCount * day) categoryCount) first days)
+      ∙ ap capped (sum-same _ _ first days (λ day low high. sum-of-day day (omega arith)))
 
 -- ---- the total of a row
 
@@ -120,10 +105,11 @@ category-rows cells first days (suc c) sum own summed =
     ∙ row-sums _ _ first days (λ read adds. sum-of-cells read adds (λ day. cellAt cells day (suc c)) first days)
 
 -- and that of the cells of all nine is the sums of the rows of category 0.
-pub all-rows : (cells : List Cell) (first days category : ℕ) (sum : Cell) → category ≡ 0 → sum ≡ allSum cells first days
+pub all-rows : (cells : List Cell) (first days category : ℕ) (sum : Cell) → first + days ≤ dayLimit → category ≡ 0
+    → sum ≡ allSum cells first days
     → rowFrom sum ≡ sumsOf capped (λ day. rowFrom (cellOf cells day category)) first days
 unfolding cellOf
-all-rows cells first days category sum all summed =
+all-rows cells first days category sum inside all summed =
     rw all
     (ap rowFrom summed
-    ∙ row-sums _ _ first days (λ read adds. sum-of-categories read adds cells first days categoryCount 1))
+    ∙ row-sums _ _ first days (λ read adds. sum-of-days read adds cells first days inside))

@@ -20,27 +20,27 @@ use Rattle.book.specs.History.{Measure, number, value}
 use Rattle.book.specs.Balance.{bookAfter, inMeasure, failsOf}
 use Rattle.book.specs.Exact.{most}
 use Rattle.book.proofs.Theorems.Sums.{and-true, total-le}
-use Rattle.book.proofs.Theorems.Exactness.{no-cap-reached}
+use Rattle.book.proofs.Theorems.Exactness.{parts-most, no-cap-reached}
 use Rattle.lines.specs.Decimal.{decimal}
 use Rattle.lines.proofs.Theorems.Decimal.{digits-most}
 use Rattle.lines.proofs.Theorems.Joined.{joined-length}
 use Rattle.reports.specs.RowText.{
   TextAnswer,
   rowLine,
-  textRoom,
-  refused,
-  written,
+  shortestBuffer,
+  noBytes,
+  bytesWritten,
   textBy,
   withLine,
   rowText,
-  longestLine,
+  lineBound,
   WholeLines,
 }
 
 -- ---- where bytes are written
 
 -- A number that comes back is no count.
-not-written : {A : Type 0} (k n : ℕ) → refused k ≡ written n → A
+not-written : {A : Type 0} (k n : ℕ) → noBytes k ≡ bytesWritten n → A
 not-written k n e = let less : suc n ≡ n = cc in absurd (omega arith)
 
 -- the line of a day and category in range is written, into a buffer that is not too short
@@ -48,13 +48,13 @@ abbrev LineWritten : Book → ℕ → ℕ → List ℕ → Type 0
 LineWritten b day category buffer =
     (category ≤ categoryCount)
     × (day < dayLimit)
-    × (textRoom ≤ length buffer)
+    × (shortestBuffer ≤ length buffer)
     × (rowText b day category buffer ≡ withLine (rowLine day (rowOf b day category)) buffer)
 
 -- Where bytes are written they are that line, by the three tests of a row as text.
 line-written : (b : Book) (day category n : ℕ) (buffer : List ℕ) (small closed short : Bool)
-    → leb category categoryCount ≡ small → isClosed b day ≡ closed → ltb (length buffer) textRoom ≡ short
-    → rowText b day category buffer .count ≡ written n → LineWritten b day category buffer
+    → leb category categoryCount ≡ small → isClosed b day ≡ closed → ltb (length buffer) shortestBuffer ≡ short
+    → rowText b day category buffer .count ≡ bytesWritten n → LineWritten b day category buffer
 unfolding rowText rowAnswer
 line-written b day category n buffer false closed short s c t e = not-written 2 n (rw s at e)
 line-written b day category n buffer true false short s c t e = not-written 9 n (rw (s, c) at e)
@@ -106,25 +106,22 @@ module _ (calls : List Call) (day category : ℕ) (running : day < dayLimit) (sm
   row = rowOf (bookAfter calls) day category
 
   -- What settled and what failed are together no more than the most of a row.
-  parts-most : (m : Measure) → inMeasure m (row .settled) + failsOf m (rowOf (bookAfter calls)) day category ≤ most m
-  parts-most m =
-      let total = no-cap-reached .0 calls .rows m day category running small in
-      let parts = no-cap-reached .0 calls .totals m day category running small in
-      omega arith
+  row-most : (m : Measure) → inMeasure m (row .settled) + failsOf m (rowOf (bookAfter calls)) day category ≤ most m
+  row-most m = parts-most calls m day category running small
 
   -- The ISD value is a part of what failed.
   isd-value-most : row .«isd_value» ≤ most value
   isd-value-most =
       let isd = no-cap-reached .0 calls .isdValues day category running small in
-      omega (arith, parts-most value)
+      omega (arith, row-most value)
 
   -- total, settled, securities fails and cash fails, in number or in value, and other columns behind them
   abbrev figuresIn : Measure → List Field → List Field
   figuresIn m behind =
       fieldIn m (inMeasure m (row .total)) (no-cap-reached .0 calls .rows m day category running small)
-      ∷ fieldIn m (inMeasure m (row .settled)) (omega (arith, parts-most m))
-      ∷ fieldIn m (inMeasure m (row .securities)) (omega (arith, parts-most m))
-      ∷ fieldIn m (inMeasure m (row .cash)) (omega (arith, parts-most m))
+      ∷ fieldIn m (inMeasure m (row .settled)) (omega (arith, row-most m))
+      ∷ fieldIn m (inMeasure m (row .securities)) (omega (arith, row-most m))
+      ∷ fieldIn m (inMeasure m (row .cash)) (omega (arith, row-most m))
       ∷ behind
 
   -- the columns of the row
@@ -134,7 +131,7 @@ module _ (calls : List Call) (day category : ℕ) (running : day < dayLimit) (sm
       ∷ figuresIn number (figuresIn value (fieldIn value (row .«isd_value») isd-value-most ∷ []))
 
   -- The line is its columns' digits, and a byte behind each.
-  line-most : length (rowLine day row) ≤ longestLine
+  line-most : length (rowLine day row) ≤ lineBound
   line-most =
       let sum = joined-length (λ f. f .figure) columns in
       let bound = total-le _ (λ f. suc (f .digits)) (λ f. suc-le-suc (f .short)) columns in

@@ -7,7 +7,7 @@ use mathlib.Core.List.{[]}
 use lib.ListN.{length}
 use borrow.Author.Needs.{needs}
 use Rattle.lines.proofs.Theorems.Buffers.{put-leaves}
-use Rattle.lines.proofs.Theorems.Joined.{PutUpTo, put-field, put-fields}
+use Rattle.lines.proofs.Functions.Putting.{PutUpTo, put-field, put-fields}
 use Rattle.lines.proofs.writing.put_line.Statement.{statement}
 use Rattle.lines.proofs.writing.put_line.Tie as tie
 

@@ -4,8 +4,8 @@ use native.Mathlib.Omega.{arith}
 use Prim.Native.Nat.{_+_, _-_, _≤_}
 use mathlib.Core.Path.{_≡_, refl, sym, ap, _∙_}
 use mathlib.Core.List.{map}
-use Rattle.reports.specs.Nine.{numbered, numberedBy, nineAnswer}
-use Rattle.reports.proofs.Theorems.Nine.{filled, filled-next, filled-all, one-of-nine}
+use Rattle.reports.specs.Nine.{numbered, oneOfNine, numberedBy, nineAnswer}
+use Rattle.reports.proofs.Functions.Filling.{filled, filled-next, filled-all}
 use Rattle.reports.proofs.nine.nine_reports.Statement.{statement}
 use Rattle.reports.proofs.nine.nine_reports.Tie as tie
 
@@ -13,7 +13,7 @@ use Rattle.reports.proofs.nine.nine_reports.Tie as tie
 abbrev Inv-loop : tie.InvT-loop
 Inv-loop book first last reports₀ i₀ reports i =
     (i ≤ 9)
-    × (filled (λ place. one-of-nine book first last (place + 1)) (9 - i) i (map numberedBy reports)
+    × (filled (λ place. oneOfNine book first last (place + 1)) (9 - i) i (map numberedBy reports)
     ≡ nineAnswer book first last)
 
 -- how many places are left

@@ -6,8 +6,8 @@ use native.Mathlib.Omega.{arith}
 use Prim.Native.Nat.{ℕ}
 use mathlib.Core.Path.{ap}
 use Rattle.rates.specs.Stored.{capped}
-use Rattle.book.specs.Rows.{rowOf}
-use Rattle.reports.specs.Reports.{figures, sumsOf, reportFrom, reportAnswer}
+use Rattle.book.specs.Rows.{figures}
+use Rattle.reports.specs.Reports.{sumsOf, reportFrom, rowsOf, reportAnswer}
 use Rattle.reports.proofs.reports.single_report.Statement.{statement}
 use Rattle.reports.proofs.reports.single_report.Tie as tie
 
@@ -45,7 +45,7 @@ returns-5 c =
     let past = running .before in
     let order = past .before .before in
     let asked = order .before .before .args in
-    let sums = sumsOf capped (λ day. rowOf (asked .book) day (asked .category)) (asked .first) in
+    let sums = sumsOf capped (rowsOf (asked .book) (asked .category)) (asked .first) in
     rw (
       le-leb _ _ (order .before .if1 .left),
       le-ltb _ _ (order .if2 .left),

@@ -1,19 +1,19 @@
 -- `category_sum` meets its contract: the loop has the sum of the cells from the day that it looked at last. Assumes nothing.
 use borrow.Author.Needs.{needs}
 use native.Mathlib.Omega.{arith}
-use Prim.Native.Nat.{ℕ, _-_, _≤_, min}
+use Prim.Native.Nat.{ℕ, _-_, _≤_}
 use mathlib.Core.Path.{_≡_, ap, _∙_}
 use lib.ListN.{getD}
 use Rattle.book.specs.Figures.{none, cellAt}
+use Rattle.book.proofs.Functions.Added.{added-at-end, added-next}
 use Rattle.reports.specs.CellSums.{categorySum}
-use Rattle.reports.proofs.Theorems.Adding.{added-next, added-at-end, added-at-first}
 use Rattle.reports.proofs.sums.category_sum.Statement.{statement}
 use Rattle.reports.proofs.sums.category_sum.Tie as tie
 
 -- the sum of the cells from `day` on and before `end`
 abbrev Inv-loop : tie.InvT-loop
 Inv-loop first end category book sum₀ day₀ sum day =
-    (day ≤ end) × (min first end ≤ day) × (sum ≡ categorySum (book .cells) day (end - day) category)
+    (day ≤ end) × (first ≤ day) × (sum ≡ categorySum (book .cells) day (end - day) category)
 
 -- the day looked at last
 abbrev μ-loop : tie.MeasureT-loop
@@ -31,16 +31,18 @@ loop-again c =
     let category = start .before .before .args .category in (
       omega arith,
       omega arith,
-      added-next (λ day. cellAt cells day category) _ _ _ _ _ (omega arith) (omega arith)
+      added-next (λ day. cellAt cells day category) _ _ _ _ _ _ (inv .2) (c .add .ensures)
           (ap (λ (k : ℕ). getD cells k none) (c .before .before .place .ensures .value))
-          (inv .2)
-          (c .add .ensures),
+          (omega arith)
+          (omega arith),
     )
 
 returns : tie.Need-returns Inv-loop μ-loop
 returns c =
     let inv = c .before .loop .inv in
-    inv .2 ∙ added-at-first _ _ _ _ (inv .0) (inv .1) (c .loop-test .left)
+    let asked = c .before .before .before .args in
+    let there : c .before .loop .day ≡ asked .first = omega arith in
+    inv .2 ∙ ap (λ (day : ℕ). categorySum (asked .t1 .cells) day (asked .end - day) (asked .category)) there
 
 pub category-sum-spec : {M : Type 1} → statement M
 category-sum-spec =

@@ -7,11 +7,12 @@ use mathlib.Core.Path.{_≡_, refl, sym, ap, ap₂, _∙_}
 use mathlib.Core.List.{List}
 use lib.ListN.{length}
 use Rattle.book.specs.declared.book.Book.{Book}
+use Rattle.book.specs.declared.rows.Row.{Row}
 use Rattle.book.specs.declared.rows.RowAnswer.{RowAnswer}
 use Rattle.book.specs.Rows.{Given, givenBy, rowAnswer}
 use Rattle.lines.specs.Grammar.{joined}
 use Rattle.lines.specs.Writing.{Put}
-use Rattle.reports.specs.RowText.{Text, written, withLine, textOf, rowText}
+use Rattle.reports.specs.RowText.{Text, bytesWritten, withLine, textOf, rowText}
 use Rattle.reports.proofs.text.row_text.Statement.{statement}
 use Rattle.reports.proofs.text.row_text.Tie as tie
 
@@ -21,15 +22,15 @@ text-of : (b : Book) (day category : ℕ) (buffer : List ℕ) (answer known : Ro
     → text ≡ rowText b day category buffer
 unfolding rowText
 text-of b day category buffer answer known text same given due =
-    due ∙ ap (λ (g : Given). textOf g day buffer) (sym (ap givenBy same) ∙ given)
+    due ∙ ap (λ (g : Given Row). textOf g day buffer) (sym (ap givenBy same) ∙ given)
 
 -- Numbers put as a line at the buffer's start are the text with that line.
 line-put : (before after fields columns : List ℕ) (end : ℕ) → fields ≡ columns → Put before 0 (joined fields) end after
-    → record { count = written end; buffer = after } ≡ withLine (joined columns) before
+    → record { count = bytesWritten end; buffer = after } ≡ withLine (joined columns) before
 line-put before after fields columns end same put =
     let line : Put before 0 (joined columns) end after = rw same at put in
     let count : end ≡ min (length (joined columns)) (length before) = omega (arith, line .0) in
-    ap₂ (λ (n : ℕ) (buffer : List ℕ). record { count = written n; buffer = buffer }) count (line .1)
+    ap₂ (λ (n : ℕ) (buffer : List ℕ). record { count = bytesWritten n; buffer = buffer }) count (line .1)
 
 -- The buffer is too short.
 returns : tie.Need-returns
@@ -44,7 +45,7 @@ returns-2 c =
     let fields = put .before .before .before in
     let arm = fields .before .before .before in
     text-of _ _ _ _ _ _ _ (arm .answer .given .1) (arm .before .before .row .ensures)
-    (rw (le-ltb _ _ (fields .before .if1 .left)) (line-put _ _ _ _ _ (fields .fields-of .ensures) (put .put-line .ensures)))
+    (rw (le-ltb _ _ (fields .before .if1 .left)) (line-put _ _ _ _ _ (fields .row-fields .ensures) (put .put-line .ensures)))
 
 -- The row is refused.
 returns-3 : tie.Need-returns-3

@@ -4,13 +4,14 @@ use borrow.Author.Needs.{needs}
 use borrow.Author.Tests.{le-leb, lt-leb, lt-ltb, le-ltb}
 use native.Mathlib.Omega.{arith}
 use Prim.Native.Nat.{ℕ, zero, suc, _-_, _≤_, _<_}
-use mathlib.Core.Path.{_≡_, refl, sym, ap, ap₂, _∙_}
+use mathlib.Core.Path.{_≡_, refl, ap, _∙_}
 use mathlib.Core.List.{List}
 use lib.ListN.{getD}
 use Rattle.book.specs.Limits.{dayLimit, categoryCount}
-use Rattle.book.specs.Figures.{Cell, none, place, addCell}
+use Rattle.book.specs.Figures.{Cell, none, place, cellAt}
 use Rattle.book.specs.Calls.{Book}
-use Rattle.book.specs.Rows.{cellsFrom, cellOf, rowFrom, figures, rowAnswer}
+use Rattle.book.specs.Rows.{addedFrom, cellOf, rowFrom, figures, rowAnswer}
+use Rattle.book.proofs.Functions.Added.{added-at-end, added-next}
 use Rattle.book.proofs.book.Book.row.Statement.{statement}
 use Rattle.book.proofs.book.Book.row.Tie as tie
 
@@ -23,20 +24,9 @@ unfolding cellOf
 own-cell cells day zero at some same = absurd (some refl)
 own-cell cells day (suc category) at some same = ap (λ (k : ℕ). getD cells k none) same
 
--- The cell of the last category left, added to the sum of those above it, is the sum from that category on.
-next-cell : (cells : List Cell) (day left at : ℕ) (sum next : Cell) → 0 < left → left ≤ categoryCount → at ≡ place day left
-    → sum ≡ cellsFrom (categoryCount - left) (suc left) cells day → next ≡ addCell (getD cells at none) sum
-    → next ≡ cellsFrom (categoryCount - (left - 1)) (suc (left - 1)) cells day
-next-cell cells day left at sum next some most same summed added =
-    let more : categoryCount - (left - 1) ≡ suc (categoryCount - left) = omega arith in
-    let from : suc (left - 1) ≡ left = omega arith in
-    added
-    ∙ ap₂ addCell (ap (λ (k : ℕ). getD cells k none) same) summed
-    ∙ sym (ap₂ (λ (n c : ℕ). cellsFrom n c cells day) more from)
-
 -- With none left, the sum is the cell of category 0.
 all-cells : (cells : List Cell) (day category left : ℕ) (sum : Cell) → left ≤ 0 → category ≡ 0
-    → sum ≡ cellsFrom (categoryCount - left) (suc left) cells day → sum ≡ cellOf cells day category
+    → sum ≡ addedFrom (cellAt cells day) (suc left) (suc categoryCount - suc left) → sum ≡ cellOf cells day category
 unfolding cellOf
 all-cells cells day category left sum done all summed =
     let none-left : left ≡ 0 = omega arith in
@@ -54,7 +44,7 @@ given-from b day category cell small past running same =
 -- the sum of the cells of the categories above `left`
 abbrev Inv-loop : tie.InvT-loop
 Inv-loop day category self sum₀ left₀ sum left =
-    (left ≤ categoryCount) × (sum ≡ cellsFrom (categoryCount - left) (suc left) (self .cells) day)
+    (left ≤ categoryCount) × (sum ≡ addedFrom (cellAt (self .cells) day) (suc left) (suc categoryCount - suc left))
 
 -- how many categories are left
 abbrev μ-loop : tie.MeasureT-loop
@@ -62,10 +52,14 @@ abbrev μ-loop : tie.MeasureT-loop
 
 loop-again : tie.Need-loop-again Inv-loop μ-loop
 loop-again c =
-    let turn = c .before .before .before in
-    let inv = turn .before .loop .inv in
-    let placed = c .before .before .place2 .ensures .value in
-    (omega arith, next-cell _ _ _ _ _ _ (turn .loop-test .taken) (inv .0) placed (inv .1) (c .add .ensures))
+    let start = c .before .before .before .before in
+    let asked = start .before .before .before .before .before .before .args in
+    let cells = asked .t1 .cells in
+    let cell = cellAt cells (asked .day) in
+    let left = start .loop .left in
+    let last : left ≡ suc (left - 1) = omega arith in
+    let own = ap (λ (k : ℕ). getD cells k none) (c .before .before .place2 .ensures .value) ∙ ap cell last in
+    (omega arith, added-next cell _ _ _ _ _ _ (start .loop .inv .1) (c .add .ensures) own (omega arith) (omega arith))
 
 -- ---- the returns
 
@@ -113,7 +107,7 @@ row-spec =
     (λ c κs. search needs)
     returns-4
     (λ c κs. search needs)
-    (λ c. (search needs, c .none .ensures))
+    (λ c. (search needs, added-at-end _ _ _ (c .none .ensures)))
     (λ c κs. search needs)
     (λ c. omega arith)
     (λ c. search needs)

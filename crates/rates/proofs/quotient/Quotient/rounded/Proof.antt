@@ -1,4 +1,5 @@
--- `Quotient::rounded` meets its contract: its test is whether the rest is less than a half of the divisor. Assumes nothing.
+-- `Quotient::rounded` meets its contract: its test is whether the remainder is less than a half of the divisor. Assumes
+-- nothing.
 use borrow.Author.Needs.{needs}
 use Rattle.rates.proofs.Rounding.{rounds-down, rounds-up}
 use Rattle.rates.proofs.quotient.Quotient.rounded.Statement.{statement}

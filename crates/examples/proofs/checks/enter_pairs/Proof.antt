@@ -2,8 +2,8 @@
 use Prim.Native.Nat.{_-_, _≤_}
 use native.Mathlib.Omega.{arith}
 use borrow.Author.Needs.{needs}
-use Rattle.examples.proofs.guidelines.enter_pairs.Statement.{statement}
-use Rattle.examples.proofs.guidelines.enter_pairs.Tie as tie
+use Rattle.examples.proofs.checks.enter_pairs.Statement.{statement}
+use Rattle.examples.proofs.checks.enter_pairs.Tie as tie
 
 -- no further than the end
 abbrev Inv-loop : tie.InvT-loop
