@@ -11,7 +11,7 @@ dividend divisor q = q .whole * divisor + q .remainder
 pub record OfRemainder (divisor number : ℕ) (q : Quotient) : Type 0 where
   pub left : dividend divisor q ≡ number % divisor
   pub below : q .remainder < divisor
-  pub none : q .whole ≡ 0
+  pub whole : q .whole ≡ 0
 
 -- s is the quotient of the sum of the numbers of a and b
 pub record Sum (divisor : ℕ) (a b s : Quotient) : Type 0 where

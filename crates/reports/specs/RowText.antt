@@ -46,7 +46,7 @@ pub data Count : Type 0 where
   noBytes : ℕ → Count
   bytesWritten : ℕ → Count
 
--- both together
+-- that, beside what the buffer holds
 pub record Text : Type 0 where
   pub count : Count
   pub buffer : List ℕ

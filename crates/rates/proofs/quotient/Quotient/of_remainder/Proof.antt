@@ -7,7 +7,7 @@ use Rattle.rates.proofs.quotient.Quotient.of_remainder.Statement.{state
 use Rattle.rates.proofs.quotient.Quotient.of_remainder.Tie as tie
 
 returns : tie.Need-returns
-returns c = record { left = omega arith; below = mod-lt _ (c .pre); none = refl }
+returns c = record { left = omega arith; below = mod-lt _ (c .pre); whole = refl }
 
 pub of-remainder-spec : {M : Type 1} → statement M
 of-remainder-spec = tie.close (tie.spec (λ c. search needs) returns)
