@@ -11,6 +11,7 @@ use rates::Duration;
 use rates::average_duration;
 use rates::fail_rate;
 use rates::stored::LARGEST;
+use reports::nine::NINE;
 use reports::nine::NumberedReport;
 use reports::nine::nine_reports;
 use reports::reports::Report;
@@ -84,7 +85,7 @@ fn say_duration(duration: Duration) {
 fn say_nine(book: Book, first: u64, last: u64) {
     let reports = nine_reports(book, first, last);
     let mut i: usize = 0;
-    while i < 9 {
+    while i < NINE {
         say_numbered(i as u64 + 1, reports[i]);
         i += 1;
     }
