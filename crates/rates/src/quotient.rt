@@ -14,17 +14,6 @@ pub(crate) struct Quotient {
 }
 
 impl Quotient {
-    // The quotient of what is left of a number by the divisor.
-    pub(crate) fn of_remainder(number: u64, divisor: u64) -> Quotient
-        requires { ⌜ 0 < divisor ⌝ }
-        ensures { λ r. ⌜ OfRemainder divisor number r ⌝ }
-    {
-        Quotient {
-            whole: 0,
-            remainder: number % divisor,
-        }
-    }
-
     // The quotient of the sum of two numbers.
     fn add(self, other: Quotient, divisor: u64) -> Quotient
         requires { ⌜ (self .remainder < divisor) × (other .remainder < divisor) × (self .whole + other .whole < 1000000) ⌝ }
@@ -53,6 +42,17 @@ impl Quotient {
         let four = two.add(two, divisor);
         let five = four.add(self, divisor);
         five.add(five, divisor)
+    }
+
+    // The quotient of what is left of a number by the divisor.
+    pub(crate) fn of_remainder(number: u64, divisor: u64) -> Quotient
+        requires { ⌜ 0 < divisor ⌝ }
+        ensures { λ r. ⌜ OfRemainder divisor number r ⌝ }
+    {
+        Quotient {
+            whole: 0,
+            remainder: number % divisor,
+        }
     }
 
     // The quotient of a hundred times the number.
