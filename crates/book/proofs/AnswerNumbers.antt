@@ -60,7 +60,8 @@ answerOf n =
     (cond (eqb n 6) Refusal.NotDue
     (cond (eqb n 7) Refusal.OnHold
     (cond (eqb n 8) Refusal.WrongPart
-    (cond (eqb n 9) Refusal.NotClosed Refusal.ShortBuffer))))))))))
+    (cond (eqb n 9) Refusal.NotClosed
+    (cond (eqb n 10) Refusal.FaultyFile Refusal.ShortBuffer)))))))))))
 
 -- The answer of an answer's number is that answer.
 answer-back : (a : Answer) → answerOf (answerNumber a) ≡ a
@@ -74,6 +75,7 @@ answer-back (Answer.Refused Refusal.NotDue) = refl
 answer-back (Answer.Refused Refusal.OnHold) = refl
 answer-back (Answer.Refused Refusal.WrongPart) = refl
 answer-back (Answer.Refused Refusal.NotClosed) = refl
+answer-back (Answer.Refused Refusal.FaultyFile) = refl
 answer-back (Answer.Refused Refusal.ShortBuffer) = refl
 
 -- Two answers of one number are the same.
@@ -91,6 +93,7 @@ not-accepted Refusal.NotDue = refl
 not-accepted Refusal.OnHold = refl
 not-accepted Refusal.WrongPart = refl
 not-accepted Refusal.NotClosed = refl
+not-accepted Refusal.FaultyFile = refl
 not-accepted Refusal.ShortBuffer = refl
 
 -- Two refusals of one number are the same.

@@ -22,6 +22,7 @@ refusalNumber Refusal.NotDue = 6
 refusalNumber Refusal.OnHold = 7
 refusalNumber Refusal.WrongPart = 8
 refusalNumber Refusal.NotClosed = 9
+refusalNumber Refusal.FaultyFile = 10
 refusalNumber Refusal.ShortBuffer = 11
 
 -- the number that came back, 0 where none did

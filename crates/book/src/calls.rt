@@ -1,6 +1,6 @@
 // The six calls with their values, and what comes back. Document 01, 'The six calls' and 'Numbers given back'.
 ghost use mathlib.Core.Path.{_≡_};
-ghost use Rattle.book.specs.Answers.{refusalNumber, answerNumber};
+ghost use Rattle.book.specs.Answers.{refusalNumber, answerNumber, isAccepted};
 use crate::pairs::Entry;
 
 pub enum Call {
@@ -16,7 +16,7 @@ pub enum Call {
     Close,
 }
 
-// Why a call, a row, a report or a row as text is refused, in the order of document 01's numbers 1 to 9 and 11.
+// Why a call, a row, a report, a file or a row as text is refused, in the order of document 01's numbers 1 to 11.
 pub enum Refusal {
     Finished,
     OutOfRange,
@@ -27,6 +27,7 @@ pub enum Refusal {
     OnHold,
     WrongPart,
     NotClosed,
+    FaultyFile,
     ShortBuffer,
 }
 
@@ -51,12 +52,23 @@ impl Refusal {
             Refusal::OnHold => 7,
             Refusal::WrongPart => 8,
             Refusal::NotClosed => 9,
+            Refusal::FaultyFile => 10,
             Refusal::ShortBuffer => 11,
         }
     }
 }
 
 impl Answer {
+    // No number comes back.
+    pub fn is_accepted(self) -> bool
+        ensures { λ r. ⌜ r ≡ isAccepted (answerNumber self) ⌝ }
+    {
+        match self {
+            Answer::Accepted => true,
+            Answer::Refused(_) => false,
+        }
+    }
+
     // The number that comes back, 0 where none does.
     pub fn number(self) -> u64
         ensures { λ r. ⌜ r ≡ answerNumber self ⌝ }

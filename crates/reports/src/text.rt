@@ -17,7 +17,7 @@ pub enum TextAnswer {
 }
 
 // The columns of the table.
-fn row_fields(day: u64, row: Row) -> [u64; 10]
+pub fn row_fields(day: u64, row: Row) -> [u64; 10]
     ensures { λ r. ⌜ r ≡ rowFields day row ⌝ }
 {
     [

@@ -3,7 +3,7 @@ use Prim.Native.Nat.{ℕ, suc, _+_, _≤_, min}
 use native.Mathlib.Nat.{add-zero}
 use native.Mathlib.Omega.{arith}
 use mathlib.Core.Path.{_≡_, refl, sym, _∙_, ap}
-use mathlib.Core.List.{List, [], _∷_, _++_, append-assoc}
+use mathlib.Core.List.{List, [], _∷_, _++_, append-assoc, append-nil}
 use mathlib.Core.Bool.{Bool, true, false}
 use lib.ListN.{length, set, take, drop, length-append}
 use lib.Seq.{
@@ -73,6 +73,14 @@ sets-there l at xs h =
 
 -- ---- bytes put
 
+-- no byte is put: the buffer stays, and the place is within it
+pub put-nothing : (before : List ℕ) (at r : ℕ) → r ≡ min at (length before) → Put before at [] r before
+put-nothing before at r e = (omega (arith, e), refl)
+
+-- the place behind the bytes is within the buffer
+pub put-inside : (before after : List ℕ) (at r : ℕ) (xs : List ℕ) → Put before at xs r after → r ≤ length after
+put-inside before after at r xs p = omega (arith, p .0, ap length (p .1), length-sets before at xs)
+
 -- some bytes, and then some behind them
 pub put-then : (before middle after : List ℕ) (at r q : ℕ) (xs ys : List ℕ)
     → Put before at xs r middle → Put middle r ys q after → Put before at (xs ++ ys) q after
@@ -84,7 +92,39 @@ put-then before middle after at r q xs ys p s =
       s .1 ∙ rw place (sets-min middle (at + length xs) ys ∙ rw (p .1) (sym (sets-append before at xs ys))),
     )
 
--- what a put leaves
+-- ---- a text put piece by piece
+
+-- some bytes of a whole text are put, and these are left of it
+abbrev pub PutSoFar : List ℕ → ℕ → List ℕ → List ℕ → ℕ → List ℕ → Type 0
+PutSoFar before at text left r after = (bytes : List ℕ) × Put before at bytes r after × (bytes ++ left ≡ text)
+
+-- none is put yet, and all of it is left
+pub put-none : (before : List ℕ) (at r : ℕ) (text : List ℕ) → r ≡ min at (length before) → PutSoFar before at text text r before
+put-none before at r text e = ([], put-nothing before at r e, refl)
+
+-- the next of what is left is put
+pub put-more : (before middle after : List ℕ) (at r q : ℕ) (text xs left : List ℕ)
+    → PutSoFar before at text (xs ++ left) r middle → Put middle r xs q after → PutSoFar before at text left q after
+put-more before middle after at r q text xs left up put = (
+  up .0 ++ xs,
+  put-then before middle after at r q (up .0) xs (up .1) put,
+  append-assoc (up .0) xs left ∙ up .2,
+)
+
+-- the buffer's length stays
+pub put-size : (before after : List ℕ) (at r : ℕ) (text left : List ℕ) → PutSoFar before at text left r after
+    → length after ≡ length before
+put-size before after at r text left up = ap length (up .1 .1) ∙ length-sets before at (up .0)
+
+-- nothing is left
+pub put-all : (before after : List ℕ) (at r : ℕ) (text left : List ℕ) → left ≡ [] → PutSoFar before at text left r after
+    → Put before at text r after
+put-all before after at r text left none up =
+    let all : up .0 ≡ text = sym (append-nil (up .0)) ∙ rw none at (up .2) in
+    rw (← all) (up .1)
+
+-- ---- what a put leaves
+
 pub put-leaves : (before after : List ℕ) (at r : ℕ) (xs : List ℕ) → Put before at xs r after → PutLeaves before at xs after
 put-leaves before after at r xs p = rw (p .1) (record {
   size = length-sets before at xs;

@@ -106,6 +106,18 @@ pub lines-none : linesOf [] ≡ []
 unfolding linesOf cut
 lines-none = refl
 
+-- a text has no more lines than bytes
+pub cut-most : (s : List ℕ) → length (cut s) ≤ length s
+unfolding cut
+cut-most [] = omega arith
+cut-most (b ∷ bs) = go (eqb b lineFeed) (cut bs) (cut-most bs)
+  where
+    go : (t : Bool) (more : List (List ℕ)) → length more ≤ length bs
+        → length (cond t ((b ∷ []) ∷ more) (withByte b more)) ≤ suc (length bs)
+    go true more h = omega arith
+    go false [] h = omega arith
+    go false (l ∷ ls) h = omega arith
+
 -- ---- the next line
 
 -- the first line of a text has a byte, where there is one

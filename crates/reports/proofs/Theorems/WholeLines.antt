@@ -131,7 +131,7 @@ module _ (calls : List Call) (day category : ℕ) (running : day < dayLimit) (sm
       ∷ figuresIn number (figuresIn value (fieldIn value (row .«isd_value») isd-value-most ∷ []))
 
   -- The line is its columns' digits, and a byte behind each.
-  line-most : length (rowLine day row) ≤ lineBound
+  pub line-most : length (rowLine day row) ≤ lineBound
   line-most =
       let sum = joined-length (λ f. f .figure) columns in
       let bound = total-le _ (λ f. suc (f .digits)) (λ f. suc-le-suc (f .short)) columns in

@@ -1,12 +1,9 @@
 -- `put_line` meets its contract: each turn of its loop puts the next field and the byte behind it. Assumes nothing.
 use Prim.Native.Nat.{_-_}
 use native.Mathlib.Omega.{arith}
-use mathlib.Core.Logic.{⊎-elim}
-use mathlib.Core.Path.{refl}
-use mathlib.Core.List.{[]}
 use lib.ListN.{length}
 use borrow.Author.Needs.{needs}
-use Rattle.lines.proofs.Theorems.Buffers.{put-leaves}
+use Rattle.lines.proofs.Theorems.Buffers.{put-leaves, put-none}
 use Rattle.lines.proofs.Functions.Putting.{PutUpTo, put-field, put-fields}
 use Rattle.lines.proofs.writing.put_line.Statement.{statement}
 use Rattle.lines.proofs.writing.put_line.Tie as tie
@@ -21,7 +18,7 @@ abbrev μ-loop : tie.MeasureT-loop
 
 -- no field is put yet
 loop-holds : tie.Need-loop-holds Inv-loop μ-loop
-loop-holds c = ([], (⊎-elim (λ w. omega arith) (λ w. omega arith) (c .if1 .came), refl), refl)
+loop-holds c = put-none _ _ _ _ (c .place-within .ensures)
 
 -- a turn
 loop-again : tie.Need-loop-again Inv-loop μ-loop
@@ -48,6 +45,7 @@ put-line-spec =
     (tie.spec
     Inv-loop
     μ-loop
+    (λ c κs. search needs)
     loop-holds
     (λ c. search needs)
     (λ c. search needs)

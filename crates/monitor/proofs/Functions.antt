@@ -1,0 +1,9 @@
+-- What the proofs of the functions share.
+
+-- a text put into a buffer that holds it whole
+pub mod Whole
+-- the loops over a file's lines
+pub mod Replaying
+pub mod Answering
+-- what is put of a report's answer
+pub mod Reporting

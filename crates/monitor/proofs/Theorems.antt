@@ -1,0 +1,10 @@
+-- Theorems on a file replayed, to be read from top to bottom.
+
+-- what it is for a file to be faulty or not
+pub mod Files
+-- its book is that of its calls, and each line is counted once
+pub mod Replayed
+-- its table, its reports and its answers fit into their buffers
+pub mod Table
+pub mod ReportTable
+pub mod AnswerTable

@@ -1,0 +1,190 @@
+-- The answers of no file take more than their buffer has: a line has at most 18 bytes, and a file fewer than 65,536 lines.
+-- Assumes nothing.
+use Prim.Native.Nat.{ℕ, suc, _+_, _*_, _≤_}
+use native.Mathlib.Omega.{arith}
+use mathlib.Core.Path.{_≡_, refl, ap, subst⁻¹}
+use mathlib.Core.Bool.{Bool, true, false, cond}
+use mathlib.Core.List.{List, [], _∷_, _++_, map}
+use lib.ListN.{length, length-append, length-drop, length-map, drop}
+use lib.Dec.{eqb}
+use Rattle.book.specs.declared.book.Book.{Book}
+use Rattle.book.specs.declared.calls.Answer.{Answer}
+use Rattle.book.specs.declared.calls.Call.{Call}
+use Rattle.book.specs.declared.calls.Refusal.{Refusal}
+use Rattle.book.specs.Sums.{All}
+use Rattle.book.specs.Answers.{answerNumber}
+use Rattle.book.specs.Calls.{answerOf, freshBook}
+use Rattle.book.proofs.Theorems.Sums.{all-map}
+use Rattle.book.proofs.OneOutcome.{some-outcome}
+use Rattle.lines.specs.Bytes.{bytes, lineFeed}
+use Rattle.lines.specs.Decimal.{decimal}
+use Rattle.lines.specs.Fields.{callOf}
+use Rattle.lines.specs.Reading.{Reading, fields, wrongAt, noLine, lineOf}
+use Rattle.lines.specs.Names.{namesLine}
+use Rattle.lines.specs.Texts.{withByte, cut, linesOf}
+use Rattle.lines.proofs.Theorems.Decimal.{digits-most}
+use Rattle.lines.proofs.Theorems.Grammar.{scan-is-grammar}
+use Rattle.lines.proofs.Theorems.Texts.{cut-most}
+use Rattle.monitor.specs.Replay.{
+  fileLimit,
+  isFaulty,
+  callLines,
+  Answered,
+  numbered,
+  wrongLine,
+  answersFrom,
+  afterLine,
+  answersOf,
+}
+use Rattle.monitor.specs.Texts.{faultText}
+use Rattle.monitor.specs.AnswerTable.{answerNames, answerLine, answerLines, answerText, AnswersFit}
+use Rattle.monitor.proofs.Theorems.Files.{lines-read, file-most}
+use Rattle.monitor.proofs.Theorems.Replayed.{answer-each}
+
+-- ---- the places
+
+-- A line has no more bytes than its text.
+cut-short : (s : List ℕ) → All (λ l. length l ≤ length s) (cut s)
+unfolding cut
+cut-short [] = tt
+cut-short (b ∷ bs) = go (eqb b lineFeed) (cut bs) (cut-short bs)
+  where
+    longer : (ls : List (List ℕ)) → All (λ l. length l ≤ length bs) ls → All (λ l. length l ≤ suc (length bs)) ls
+    longer = all-map _ _ (λ l h. omega arith)
+
+    go : (t : Bool) (more : List (List ℕ)) → All (λ l. length l ≤ length bs) more
+        → All (λ l. length l ≤ suc (length bs)) (cond t ((b ∷ []) ∷ more) (withByte b more))
+    go true more h = (omega arith, longer more h)
+    go false [] h = (omega arith, tt)
+    go false (l ∷ ls) h = (omega (arith, h .0), longer ls (h .1))
+
+-- a place that is no more than k, where the line is wrong
+abbrev PlaceMost : ℕ → Reading → Type 0
+PlaceMost k (fields f) = Unit
+PlaceMost k (wrongAt place) = place ≤ k
+PlaceMost k noLine = Unit
+
+-- The first wrong byte is within its line, or just behind it.
+place-most : (k : ℕ) (l : List ℕ) → length l ≤ k → PlaceMost k (lineOf l)
+place-most k l h = go (lineOf l) refl
+  where
+    go : (r : Reading) → lineOf l ≡ r → PlaceMost k r
+    go (fields f) e = tt
+    go (wrongAt place) e = let w = scan-is-grammar l .wrong place .0 e .1 in omega (arith, w .within)
+    go noLine e = tt
+
+-- So no place is more than the text has bytes.
+places-most : (s : List ℕ) → All (PlaceMost (length s)) (linesOf s)
+unfolding linesOf
+places-most s = go (cut s) (cut-short s)
+  where
+    go : (ls : List (List ℕ)) → All (λ l. length l ≤ length s) ls → All (PlaceMost (length s)) (map lineOf ls)
+    go [] h = tt
+    go (l ∷ ls) h = (place-most (length s) l (h .0), go ls (h .1))
+
+-- ---- the numbers
+
+-- No number of document 01 that comes back is over 11.
+number-most : (a : Answer) → answerNumber a ≤ 11
+number-most Answer.Accepted = omega arith
+number-most (Answer.Refused Refusal.Finished) = omega arith
+number-most (Answer.Refused Refusal.OutOfRange) = omega arith
+number-most (Answer.Refused Refusal.IdSpent) = omega arith
+number-most (Answer.Refused Refusal.BookFull) = omega arith
+number-most (Answer.Refused Refusal.NotOpen) = omega arith
+number-most (Answer.Refused Refusal.NotDue) = omega arith
+number-most (Answer.Refused Refusal.OnHold) = omega arith
+number-most (Answer.Refused Refusal.WrongPart) = omega arith
+number-most (Answer.Refused Refusal.NotClosed) = omega arith
+number-most (Answer.Refused Refusal.FaultyFile) = omega arith
+number-most (Answer.Refused Refusal.ShortBuffer) = omega arith
+
+-- nor one that a call gives back
+answer-most : (b : Book) (call : Call) → answerOf b call ≤ 11
+answer-most b call =
+    let some = some-outcome b call in
+    omega (arith, number-most (some .0 .answer), ap (λ h. h .number) (some .1))
+
+-- ---- the lines
+
+-- at most 65,536, of 5 digits
+abbrev Small : Answered → Type 0
+Small (numbered n) = n ≤ fileLimit
+Small (wrongLine place) = place ≤ fileLimit
+
+-- What comes of each line is so small where no place is over that.
+answers-small : (k : ℕ) → k ≤ fileLimit → (b : Book) (ls : List Reading) → All (PlaceMost k) ls → All Small (answersFrom b ls)
+unfolding answersFrom
+answers-small k few b [] h = tt
+answers-small k few b (fields f ∷ ls) h = (omega (arith, answer-most b (callOf f)), answers-small k few _ ls (h .1))
+answers-small k few b (wrongAt place ∷ ls) h = (omega (arith, h .0), answers-small k few b ls (h .1))
+answers-small k few b (noLine ∷ ls) h = (omega arith, answers-small k few b ls (h .1))
+
+-- such a number has at most 5 digits
+digits-five : (n : ℕ) → n ≤ fileLimit → length (decimal n) ≤ 5
+digits-five n h = digits-most n 4 (omega arith)
+
+-- A line has at most 18 bytes.
+line-most : (line : ℕ) (a : Answered) → line ≤ fileLimit → Small a → length (answerLine line a) ≤ 18
+line-most line (numbered n) few small =
+    let front = length-append (decimal line) (bytes ",") in
+    let fields = length-append (decimal line ++ bytes ",") (decimal n) in
+    let all = length-append (decimal line ++ bytes "," ++ decimal n) (bytes ",-\n") in
+    omega (arith, digits-five line few, digits-five n small)
+line-most line (wrongLine place) few small =
+    let front = length-append (decimal line) (bytes ",wrong,") in
+    let fields = length-append (decimal line ++ bytes ",wrong,") (decimal place) in
+    let all = length-append (decimal line ++ bytes ",wrong," ++ decimal place) (bytes "\n") in
+    omega (arith, digits-five line few, digits-five place small)
+
+-- So the lines have at most so many times that.
+lines-most : (line : ℕ) (answers : List Answered) → line + length answers ≤ fileLimit + 1 → All Small answers
+    → length (answerLines line answers) ≤ 18 * length answers
+unfolding answerLines
+lines-most line [] few small = omega arith
+lines-most line (a ∷ answers) few small =
+    let both = length-append (answerLine line a) (answerLines (suc line) answers) in
+    omega (arith, line-most line a (omega arith) (small .0), lines-most (suc line) answers (omega arith) (small .1))
+
+-- ---- the whole
+
+module _ (s : List ℕ) (sound : isFaulty s ≡ false) where
+  -- what stands behind the names line of a file that is not faulty
+  abbrev behind : List ℕ
+  behind = drop (length namesLine) s
+
+  -- It has fewer bytes than a file may have.
+  behind-less : length behind + 1 ≤ fileLimit
+  behind-less = omega (arith, file-most s sound, length-drop (length namesLine) s)
+
+  -- So there are few answers,
+  answers-few : length (answersOf s) + 1 ≤ fileLimit
+  unfolding answersOf linesOf
+  answers-few =
+      omega (
+        arith,
+        behind-less,
+        answer-each freshBook (callLines s),
+        ap length (lines-read s sound),
+        length-map (cut behind) lineOf,
+        cut-most behind,
+      )
+
+  -- and each is small.
+  each-small : All Small (answersOf s)
+  unfolding answersOf
+  each-small =
+      answers-small (length behind) (omega (arith, behind-less)) freshBook (callLines s)
+      (subst⁻¹ (All (PlaceMost (length behind))) (lines-read s sound) (places-most behind))
+
+-- No file's answers take more.
+pub answers-fit : AnswersFit
+unfolding answerText
+answers-fit s = go (isFaulty s) refl
+  where
+    go : (t : Bool) → isFaulty s ≡ t → length (cond t faultText (answerNames ++ answerLines 1 (answersOf s))) ≤ 1179648
+    go true faulty = omega arith
+    go false sound =
+        let few = answers-few s sound in
+        let both = length-append answerNames (answerLines 1 (answersOf s)) in
+        omega (arith, lines-most 1 (answersOf s) (omega arith) (each-small s sound))

@@ -1,0 +1,79 @@
+-- No table takes more than its buffer has: 64 lines of at most 116 bytes, and two counts of at most 5 digits. Assumes nothing.
+use Prim.Native.Nat.{ℕ, zero, suc, _+_, _*_, _≤_, _<_}
+use native.Mathlib.Omega.{arith}
+use mathlib.Core.Path.{_≡_, refl, ap}
+use mathlib.Core.Bool.{Bool, true, false, cond, not}
+use mathlib.Core.List.{List, [], _∷_, _++_}
+use lib.ListN.{length, length-append, length-drop, drop}
+use Rattle.book.specs.declared.book.Book.{Book}
+use Rattle.book.specs.declared.calls.Call.{Call}
+use Rattle.book.specs.Limits.{dayLimit}
+use Rattle.book.specs.Answers.{isAccepted}
+use Rattle.book.specs.Rows.{rowOf, isClosed, refusedBy, figures, rowAnswer}
+use Rattle.book.specs.Balance.{bookAfter}
+use Rattle.lines.specs.Bytes.{bytes}
+use Rattle.lines.specs.Decimal.{decimal}
+use Rattle.lines.specs.Grammar.{joined}
+use Rattle.lines.specs.Names.{namesLine}
+use Rattle.lines.proofs.Theorems.Decimal.{digits-most}
+use Rattle.lines.proofs.Theorems.Joined.{joined-length}
+use Rattle.lines.proofs.Theorems.Texts.{cut-most}
+use Rattle.reports.specs.RowText.{lineBound}
+use Rattle.reports.proofs.Theorems.WholeLines.{line-most}
+use Rattle.monitor.specs.Replay.{fileLimit, isFaulty, replayed}
+use Rattle.monitor.specs.Demand3.{callsOf}
+use Rattle.monitor.specs.Texts.{faultText}
+use Rattle.monitor.specs.Table.{tableNames, lineGiven, dayLine, dayLines, countLines, tableOf, TablesFit}
+use Rattle.monitor.proofs.Theorems.Replayed.{book-of-calls, counts-most}
+
+module _ (calls : List Call) where
+  -- the book that the calls leave
+  abbrev left : Book
+  left = bookAfter calls
+
+  -- A day's line has no more bytes than any row's.
+  day-most : (day : ℕ) → day < dayLimit → length (dayLine left day) ≤ lineBound
+  unfolding rowAnswer
+  day-most day running = go (isClosed left day)
+    where
+      go : (t : Bool) → length (lineGiven day (cond (not t) (refusedBy 9) (figures (rowOf left day 0)))) ≤ lineBound
+      go true = line-most calls day 0 running (omega arith)
+      go false = omega arith
+
+  -- So the lines of some days have no more than so many times that.
+  days-most : (day n : ℕ) → day + n ≤ dayLimit → length (dayLines left day n) ≤ n * lineBound
+  unfolding dayLines
+  days-most day zero h = omega arith
+  days-most day (suc n) h =
+      let both = length-append (dayLine left day) (dayLines left (suc day) n) in
+      omega (arith, day-most day (omega arith), days-most (suc day) n (omega arith))
+
+-- A count of at most 65,536 has at most 5 digits.
+count-digits : (n : ℕ) → n ≤ fileLimit → length (decimal n) ≤ 5
+count-digits n h = digits-most n 4 (omega arith)
+
+-- So the counts with their names have at most 29 bytes.
+counts-length : (a r : ℕ) → a + r ≤ fileLimit → length (countLines a r) ≤ 29
+counts-length a r h =
+    let line = joined-length (λ n. n) (a ∷ r ∷ []) in
+    let both = length-append (bytes "accepted,refused\n") (joined (a ∷ r ∷ [])) in
+    omega (arith, count-digits a (omega arith), count-digits r (omega arith))
+
+-- No table takes more.
+pub tables-fit : TablesFit
+unfolding tableOf
+tables-fit s = go (isAccepted (replayed s .number))
+  where
+    days : List ℕ
+    days = dayLines (replayed s .book) 0 dayLimit
+
+    counts : List ℕ
+    counts = countLines (replayed s .accepted) (replayed s .refused)
+
+    go : (t : Bool) → length (cond t (tableNames ++ days ++ counts) faultText) ≤ 8192
+    go true =
+        let most : length days ≤ dayLimit * lineBound = rw (book-of-calls s) (days-most (callsOf s) 0 dayLimit (omega arith)) in
+        let front = length-append tableNames days in
+        let both = length-append (tableNames ++ days) counts in
+        omega (arith, counts-length _ _ (counts-most s))
+    go false = omega arith

@@ -1,0 +1,96 @@
+-- The reports of a call file as a table: a line for each category 0 to 9 over a run of days. Assumes nothing.
+use Prim.Native.Nat.{ℕ, zero, suc, _-_, _≤_}
+use mathlib.Core.Bool.{cond}
+use mathlib.Core.List.{List, [], _∷_, _++_}
+use mathlib.Core.Option.{Option, none, some}
+use lib.ListN.{length}
+use Rattle.book.specs.declared.book.Book.{Book}
+use Rattle.book.specs.Limits.{categoryCount}
+use Rattle.book.specs.Answers.{isAccepted}
+use Rattle.book.specs.Rows.{Given, refusedBy, figures}
+use Rattle.lines.specs.Bytes.{bytes, comma, lineFeed}
+use Rattle.lines.specs.Decimal.{decimal}
+use Rattle.lines.specs.Grammar.{joined}
+use Rattle.reports.specs.Reports.{Reported, reportAnswer}
+use Rattle.reports.specs.RowText.{rowFields}
+use Rattle.monitor.specs.Replay.{Replayed, replayed}
+use Rattle.monitor.specs.Texts.{faultText}
+pub use Rattle.monitor.specs.declared.report_table.Days.{Days}
+
+-- the columns of the table, with category for day, and first, last, rates and duration beside them
+abbrev pub reportNames : List ℕ
+reportNames =
+    bytes "first,last,category,total_n,settled_n,sec_n,cash_n,total_v,settled_v,sec_v,cash_v,isd_v,rate_n,rate_v,duration\n"
+
+-- ---- a line
+
+-- numbers, each with a comma behind it
+unfoldable pub listed : List ℕ → List ℕ
+listed [] = []
+listed (n ∷ ns) = decimal n ++ (comma ∷ listed ns)
+
+-- all columns but the duration
+abbrev pub reportFields : ℕ → ℕ → ℕ → Reported → List ℕ
+reportFields first last category r =
+    first ∷ last ∷ rowFields category (r .sums) ++ (r .rateByNumber ∷ r .rateByValue ∷ [])
+
+-- hundredths of a day, and `-` where the duration is absent
+abbrev pub durationText : Option ℕ → List ℕ
+durationText none = bytes "-"
+durationText (some n) = decimal n
+
+-- the line of a report
+abbrev pub reportLine : ℕ → ℕ → ℕ → Reported → List ℕ
+reportLine first last category r =
+    listed (reportFields first last category r) ++ durationText (r .duration) ++ (lineFeed ∷ [])
+
+-- ---- the lines of a run of days
+
+-- the line of a category: there is one where its report is given
+abbrev pub lineGiven : ℕ → ℕ → ℕ → Given Reported → List ℕ
+lineGiven first last category (refusedBy n) = []
+lineGiven first last category (figures r) = reportLine first last category r
+
+-- the lines of n categories from a category on
+unfoldable pub categoryLines : Book → ℕ → ℕ → ℕ → ℕ → List ℕ
+categoryLines b first last category zero = []
+categoryLines b first last category (suc n) =
+    lineGiven first last category (reportAnswer b first last category) ++ categoryLines b first last (suc category) n
+
+-- `refused` and a number on two lines
+abbrev pub refusedText : ℕ → List ℕ
+refusedText n = bytes "refused\n" ++ joined (n ∷ [])
+
+-- where the report over all categories is refused, so are the others
+abbrev pub linesGiven : Book → ℕ → ℕ → Given Reported → List ℕ
+linesGiven b first last (refusedBy n) = refusedText n
+linesGiven b first last (figures r) = categoryLines b first last 0 (suc categoryCount)
+
+-- the names line and the lines of a run of days
+unfoldable pub reportsOver : Book → ℕ → ℕ → List ℕ
+reportsOver b first last = reportNames ++ linesGiven b first last (reportAnswer b first last 0)
+
+-- ---- the whole
+
+-- the run from the first to the last, or all closed days; where none is closed, day 0, which is refused
+abbrev pub reportsOf : Book → Days → List ℕ
+reportsOf b Days.AllClosed = reportsOver b 0 (b .today - 1)
+reportsOf b (Days.FromTo first last) = reportsOver b first last
+
+-- the reports of a file that was replayed
+unfoldable pub reportTableOf : Replayed → Days → List ℕ
+reportTableOf r days = cond (isAccepted (r .number)) (reportsOf (r .book) days) faultText
+
+-- the reports of a file
+abbrev pub reportText : List ℕ → Days → List ℕ
+reportText s days = reportTableOf (replayed s) days
+
+-- ---- its length
+
+-- as many bytes as it may take
+abbrev pub reportRoom : ℕ
+reportRoom = 4096
+
+-- It takes no more, whatever the file and the run of days.
+abbrev pub ReportsFit : Type 0
+ReportsFit = (s : List ℕ) (days : Days) → length (reportText s days) ≤ reportRoom

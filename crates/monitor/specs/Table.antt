@@ -1,0 +1,58 @@
+-- The table of a call file, down to its bytes. Document 01, 'The calls as text': the names line, a line for each closed day
+-- over all categories, then accepted and refused counts. Assumes nothing.
+use Prim.Native.Nat.{ℕ, zero, suc, _≤_}
+use mathlib.Core.Bool.{cond}
+use mathlib.Core.List.{List, [], _∷_, _++_}
+use lib.ListN.{length}
+use Rattle.book.specs.declared.book.Book.{Book}
+use Rattle.book.specs.declared.rows.Row.{Row}
+use Rattle.book.specs.Limits.{dayLimit}
+use Rattle.book.specs.Answers.{isAccepted}
+use Rattle.book.specs.Rows.{Given, refusedBy, figures, rowAnswer}
+use Rattle.lines.specs.Bytes.{bytes}
+use Rattle.lines.specs.Grammar.{joined}
+use Rattle.reports.specs.RowText.{rowLine}
+use Rattle.monitor.specs.Replay.{Replayed, replayed}
+use Rattle.monitor.specs.Texts.{faultText}
+
+-- n number, v value
+abbrev pub tableNames : List ℕ
+tableNames = bytes "day,total_n,settled_n,sec_n,cash_n,total_v,settled_v,sec_v,cash_v,isd_v\n"
+
+-- the line of a day: there is one where its row is given
+abbrev pub lineGiven : ℕ → Given Row → List ℕ
+lineGiven day (refusedBy n) = []
+lineGiven day (figures r) = rowLine day r
+
+-- over all categories
+abbrev pub dayLine : Book → ℕ → List ℕ
+dayLine b day = lineGiven day (rowAnswer b day 0)
+
+-- the lines of n days from a day on
+unfoldable pub dayLines : Book → ℕ → ℕ → List ℕ
+dayLines b day zero = []
+dayLines b day (suc n) = dayLine b day ++ dayLines b (suc day) n
+
+-- accepted and refused counts
+abbrev pub countLines : ℕ → ℕ → List ℕ
+countLines accepted refused = bytes "accepted,refused\n" ++ joined (accepted ∷ refused ∷ [])
+
+-- the table of a file that was replayed
+unfoldable pub tableOf : Replayed → List ℕ
+tableOf r =
+    cond (isAccepted (r .number)) (tableNames ++ dayLines (r .book) 0 dayLimit ++ countLines (r .accepted) (r .refused))
+    faultText
+
+-- the table of a file
+abbrev pub tableText : List ℕ → List ℕ
+tableText s = tableOf (replayed s)
+
+-- ---- its length
+
+-- as many bytes as a table may take
+abbrev pub tableRoom : ℕ
+tableRoom = 8192
+
+-- No table takes more.
+abbrev pub TablesFit : Type 0
+TablesFit = (s : List ℕ) → length (tableText s) ≤ tableRoom

@@ -1,0 +1,27 @@
+-- Texts that the monitor writes: into a lent buffer that holds them whole, and what they share. Assumes nothing.
+use Prim.Native.Nat.{ℕ, _≤_}
+use mathlib.Core.Path.{_≡_}
+use mathlib.Core.List.{List, _++_}
+use lib.ListN.{length, take, drop}
+use Rattle.lines.specs.Bytes.{bytes}
+
+-- how many bytes are written, and what the buffer then holds
+pub record Written : Type 0 where
+  pub count : ℕ
+  pub buffer : List ℕ
+
+-- what comes back, and the buffer
+abbrev pub writtenBy : ℕ → List ℕ → Written
+writtenBy count buffer = record { count = count; buffer = buffer }
+
+-- A text stands whole at the buffer's start, and the bytes behind it stay.
+abbrev pub whole : List ℕ → List ℕ → Written
+whole text buffer = record { count = length text; buffer = text ++ drop (length text) buffer }
+
+-- So many bytes stand at the buffer's start, in the two forms that are asked of whoever hands on just these.
+abbrev pub Counted : ℕ → List ℕ → Type 0
+Counted count buffer = (count ≤ length buffer) × (count ≡ length (take count buffer))
+
+-- 'On a faulty file it writes fault and 10 on two lines.'
+abbrev pub faultText : List ℕ
+faultText = bytes "fault\n10\n"
