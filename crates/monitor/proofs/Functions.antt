@@ -2,6 +2,8 @@
 
 -- a text put into a buffer that holds it whole
 pub mod Whole
+-- lines put one after another, and the text of a file or its fault
+pub mod Listing
 -- the loops over a file's lines
 pub mod Replaying
 pub mod Answering

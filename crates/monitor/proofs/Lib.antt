@@ -1,2 +1,3 @@
 pub mod Theorems
 pub mod Functions
+pub mod Worked

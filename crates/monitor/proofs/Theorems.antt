@@ -5,6 +5,7 @@ pub mod Files
 -- its book is that of its calls, and each line is counted once
 pub mod Replayed
 -- its table, its reports and its answers fit into their buffers
+pub mod Lines
 pub mod Table
 pub mod ReportTable
 pub mod AnswerTable

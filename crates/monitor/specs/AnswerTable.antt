@@ -1,12 +1,11 @@
 -- What came of each line of a call file, as a table, for the engineer who asks why a line was refused. Assumes nothing.
 use Prim.Native.Nat.{ℕ, suc, _≤_}
-use mathlib.Core.Bool.{cond}
 use mathlib.Core.List.{List, [], _∷_, _++_}
 use lib.ListN.{length}
-use Rattle.lines.specs.Bytes.{bytes, comma, lineFeed}
+use Rattle.lines.specs.Bytes.{bytes}
 use Rattle.lines.specs.Decimal.{decimal}
-use Rattle.monitor.specs.Replay.{Answered, numbered, wrongLine, isFaulty, answersOf}
-use Rattle.monitor.specs.Texts.{faultText}
+use Rattle.monitor.specs.Replay.{Answered, numbered, wrongLine, answersOf, replayed}
+use Rattle.monitor.specs.Texts.{orFault}
 
 -- a line's number from 1, what came of it, and the place of its first wrong byte
 abbrev pub answerNames : List ℕ
@@ -24,7 +23,7 @@ answerLines line (a ∷ answers) = answerLine line a ++ answerLines (suc line) a
 
 -- the answers of a file
 unfoldable pub answerText : List ℕ → List ℕ
-answerText s = cond (isFaulty s) faultText (answerNames ++ answerLines 1 (answersOf s))
+answerText s = orFault (replayed s .number) (answerNames ++ answerLines 1 (answersOf s))
 
 -- ---- its length
 

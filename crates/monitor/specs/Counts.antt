@@ -7,10 +7,8 @@ use mathlib.Core.List.{List}
 use lib.ListN.{length, drop}
 use Rattle.book.specs.Balance.{acceptedOf}
 use Rattle.lines.specs.Names.{namesLine}
-use Rattle.lines.specs.Texts.{cut, fileOf}
+use Rattle.lines.specs.Texts.{cut, ReadsAs}
 use Rattle.lines.specs.Fields.{Call}
-use Rattle.lines.specs.Grammar.{Writable}
-use Rattle.book.specs.Sums.{All}
 use Rattle.monitor.specs.Replay.{fileLimit, isFaulty, replayed}
 use Rattle.monitor.specs.Demand3.{callsOf}
 
@@ -19,6 +17,6 @@ pub record CountsAreLines (s : List ℕ) : Type 0 where
   pub lines : isFaulty s ≡ false → replayed s .accepted + replayed s .refused ≡ length (cut (drop (length namesLine) s))
   pub calls : replayed s .accepted ≡ length (acceptedOf (callsOf s))
 
--- The calls of a file that is written of some calls, none with a field of more than 11 digits, are these calls.
-abbrev pub WrittenCallsAreRead : Type 0
-WrittenCallsAreRead = (calls : List Call) → All Writable calls → length (fileOf calls) ≤ fileLimit → callsOf (fileOf calls) ≡ calls
+-- A file that reads as some calls, as one that is written of them does, has these calls.
+abbrev pub CallsAreRead : Type 0
+CallsAreRead = (s : List ℕ) (calls : List Call) → ReadsAs s calls → length s ≤ fileLimit → callsOf s ≡ calls

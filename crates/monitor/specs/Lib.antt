@@ -6,3 +6,4 @@ pub mod Table
 pub mod DayArgument
 pub mod ReportTable
 pub mod AnswerTable
+pub mod Worked

@@ -1,12 +1,10 @@
 -- The reports of a call file as a table: a line for each category 0 to 9 over a run of days. Assumes nothing.
-use Prim.Native.Nat.{ℕ, zero, suc, _-_, _≤_}
-use mathlib.Core.Bool.{cond}
+use Prim.Native.Nat.{ℕ, suc, _-_, _≤_}
 use mathlib.Core.List.{List, [], _∷_, _++_}
 use mathlib.Core.Option.{Option, none, some}
 use lib.ListN.{length}
 use Rattle.book.specs.declared.book.Book.{Book}
 use Rattle.book.specs.Limits.{categoryCount}
-use Rattle.book.specs.Answers.{isAccepted}
 use Rattle.book.specs.Rows.{Given, refusedBy, figures}
 use Rattle.lines.specs.Bytes.{bytes, comma, lineFeed}
 use Rattle.lines.specs.Decimal.{decimal}
@@ -14,7 +12,7 @@ use Rattle.lines.specs.Grammar.{joined}
 use Rattle.reports.specs.Reports.{Reported, reportAnswer}
 use Rattle.reports.specs.RowText.{rowFields}
 use Rattle.monitor.specs.Replay.{Replayed, replayed}
-use Rattle.monitor.specs.Texts.{faultText}
+use Rattle.monitor.specs.Texts.{orFault, linesFrom}
 pub use Rattle.monitor.specs.declared.report_table.Days.{Days}
 
 -- the columns of the table, with category for day, and first, last, rates and duration beside them
@@ -51,11 +49,13 @@ abbrev pub lineGiven : ℕ → ℕ → ℕ → Given Reported → List ℕ
 lineGiven first last category (refusedBy n) = []
 lineGiven first last category (figures r) = reportLine first last category r
 
--- the lines of n categories from a category on
-unfoldable pub categoryLines : Book → ℕ → ℕ → ℕ → ℕ → List ℕ
-categoryLines b first last category zero = []
-categoryLines b first last category (suc n) =
-    lineGiven first last category (reportAnswer b first last category) ++ categoryLines b first last (suc category) n
+-- over a run of days
+abbrev pub categoryLine : Book → ℕ → ℕ → ℕ → List ℕ
+categoryLine b first last category = lineGiven first last category (reportAnswer b first last category)
+
+-- categories 0 to 9
+abbrev pub categoryLines : Book → ℕ → ℕ → List ℕ
+categoryLines b first last = linesFrom (categoryLine b first last) 0 (suc categoryCount)
 
 -- `refused` and a number on two lines
 abbrev pub refusedText : ℕ → List ℕ
@@ -64,7 +64,7 @@ refusedText n = bytes "refused\n" ++ joined (n ∷ [])
 -- where the report over all categories is refused, so are the others
 abbrev pub linesGiven : Book → ℕ → ℕ → Given Reported → List ℕ
 linesGiven b first last (refusedBy n) = refusedText n
-linesGiven b first last (figures r) = categoryLines b first last 0 (suc categoryCount)
+linesGiven b first last (figures r) = categoryLines b first last
 
 -- the names line and the lines of a run of days
 unfoldable pub reportsOver : Book → ℕ → ℕ → List ℕ
@@ -79,7 +79,7 @@ reportsOf b (Days.FromTo first last) = reportsOver b first last
 
 -- the reports of a file that was replayed
 unfoldable pub reportTableOf : Replayed → Days → List ℕ
-reportTableOf r days = cond (isAccepted (r .number)) (reportsOf (r .book) days) faultText
+reportTableOf r days = orFault (r .number) (reportsOf (r .book) days)
 
 -- the reports of a file
 abbrev pub reportText : List ℕ → Days → List ℕ

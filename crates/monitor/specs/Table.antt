@@ -1,19 +1,17 @@
 -- The table of a call file, down to its bytes. Document 01, 'The calls as text': the names line, a line for each closed day
 -- over all categories, then accepted and refused counts. Assumes nothing.
-use Prim.Native.Nat.{ℕ, zero, suc, _≤_}
-use mathlib.Core.Bool.{cond}
+use Prim.Native.Nat.{ℕ, _≤_}
 use mathlib.Core.List.{List, [], _∷_, _++_}
 use lib.ListN.{length}
 use Rattle.book.specs.declared.book.Book.{Book}
 use Rattle.book.specs.declared.rows.Row.{Row}
 use Rattle.book.specs.Limits.{dayLimit}
-use Rattle.book.specs.Answers.{isAccepted}
 use Rattle.book.specs.Rows.{Given, refusedBy, figures, rowAnswer}
 use Rattle.lines.specs.Bytes.{bytes}
 use Rattle.lines.specs.Grammar.{joined}
 use Rattle.reports.specs.RowText.{rowLine}
 use Rattle.monitor.specs.Replay.{Replayed, replayed}
-use Rattle.monitor.specs.Texts.{faultText}
+use Rattle.monitor.specs.Texts.{orFault, linesFrom}
 
 -- n number, v value
 abbrev pub tableNames : List ℕ
@@ -28,20 +26,14 @@ lineGiven day (figures r) = rowLine day r
 abbrev pub dayLine : Book → ℕ → List ℕ
 dayLine b day = lineGiven day (rowAnswer b day 0)
 
--- the lines of n days from a day on
-unfoldable pub dayLines : Book → ℕ → ℕ → List ℕ
-dayLines b day zero = []
-dayLines b day (suc n) = dayLine b day ++ dayLines b (suc day) n
-
 -- accepted and refused counts
 abbrev pub countLines : ℕ → ℕ → List ℕ
 countLines accepted refused = bytes "accepted,refused\n" ++ joined (accepted ∷ refused ∷ [])
 
--- the table of a file that was replayed
+-- the table of a file that was replayed: the names line, a line for each closed day, the counts
 unfoldable pub tableOf : Replayed → List ℕ
 tableOf r =
-    cond (isAccepted (r .number)) (tableNames ++ dayLines (r .book) 0 dayLimit ++ countLines (r .accepted) (r .refused))
-    faultText
+    orFault (r .number) (tableNames ++ linesFrom (dayLine (r .book)) 0 dayLimit ++ countLines (r .accepted) (r .refused))
 
 -- the table of a file
 abbrev pub tableText : List ℕ → List ℕ

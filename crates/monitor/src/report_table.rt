@@ -1,18 +1,17 @@
 // The reports of a call file: a line for each category over a run of days.
 ghost use mathlib.Core.Path.{_≡_};
-ghost use Prim.Native.Nat.{suc, _-_};
-ghost use Rattle.book.specs.Limits.{categoryCount};
+ghost use Prim.Native.Nat.{_-_};
 ghost use Rattle.book.specs.Answers.{refusalNumber};
 ghost use Rattle.rates.specs.Rate.{hundredthsOf};
 ghost use Rattle.lines.specs.Writing.{Put};
-ghost use Rattle.reports.specs.Reports.{reportedBy, reportAnswer};
+ghost use Rattle.reports.specs.Reports.{reportedBy};
 ghost use Rattle.monitor.specs.Replay.{replayedBy};
 ghost use Rattle.monitor.specs.Texts.{writtenBy, whole, Counted};
 ghost use Rattle.monitor.specs.ReportTable.{
   listed,
   durationText,
   reportLine,
-  lineGiven,
+  categoryLine,
   categoryLines,
   refusedText,
   reportsOver,
@@ -127,7 +126,7 @@ fn put_category(
     last: u64,
     category: u64,
 ) -> usize
-    ensures { λ r. ⌜ Put (now (buffer .entry)) at (lineGiven first last category (reportAnswer book first last category)) r (now (buffer .exit)) ⌝ }
+    ensures { λ r. ⌜ Put (now (buffer .entry)) at (categoryLine book first last category) r (now (buffer .exit)) ⌝ }
 {
     let answer = single_report(book, first, last, category);
     match answer {
@@ -138,7 +137,7 @@ fn put_category(
 
 // The lines of categories 0 to 9.
 fn put_categories(buffer: &mut [u8], at: usize, book: Book, first: u64, last: u64) -> usize
-    ensures { λ r. ⌜ Put (now (buffer .entry)) at (categoryLines book first last 0 (suc categoryCount)) r (now (buffer .exit)) ⌝ }
+    ensures { λ r. ⌜ Put (now (buffer .entry)) at (categoryLines book first last) r (now (buffer .exit)) ⌝ }
 {
     let mut end = place_within(at, buffer.len());
     let mut category: u64 = 0;

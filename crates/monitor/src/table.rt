@@ -3,8 +3,8 @@ ghost use mathlib.Core.Path.{_≡_};
 ghost use Rattle.lines.specs.Writing.{Put};
 ghost use Rattle.book.specs.Limits.{dayLimit};
 ghost use Rattle.monitor.specs.Replay.{replayedBy};
-ghost use Rattle.monitor.specs.Texts.{writtenBy, whole, Counted};
-ghost use Rattle.monitor.specs.Table.{dayLine, dayLines, countLines, tableOf, tableText};
+ghost use Rattle.monitor.specs.Texts.{writtenBy, whole, Counted, linesFrom};
+ghost use Rattle.monitor.specs.Table.{dayLine, countLines, tableOf, tableText};
 use crate::fault::put_fault;
 use crate::replay::ReplayedFile;
 use crate::replay::replay;
@@ -36,7 +36,7 @@ fn put_day(buffer: &mut [u8], at: usize, book: Book, day: u64) -> usize
 
 // A line for each closed day.
 fn put_days(buffer: &mut [u8], at: usize, book: Book) -> usize
-    ensures { λ r. ⌜ Put (now (buffer .entry)) at (dayLines book 0 dayLimit) r (now (buffer .exit)) ⌝ }
+    ensures { λ r. ⌜ Put (now (buffer .entry)) at (linesFrom (dayLine book) 0 dayLimit) r (now (buffer .exit)) ⌝ }
 {
     let mut end = place_within(at, buffer.len());
     let mut day: u64 = 0;

@@ -12,7 +12,7 @@ use Rattle.book.specs.declared.calls.Answer.{Answer}
 use Rattle.book.specs.declared.calls.Call.{Call}
 use Rattle.book.specs.declared.calls.Refusal.{Refusal}
 use Rattle.book.specs.Sums.{All}
-use Rattle.book.specs.Answers.{answerNumber}
+use Rattle.book.specs.Answers.{answerNumber, refused, accepted}
 use Rattle.book.specs.Calls.{answerOf, freshBook}
 use Rattle.book.proofs.Theorems.Sums.{all-map}
 use Rattle.book.proofs.OneOutcome.{some-outcome}
@@ -22,7 +22,6 @@ use Rattle.lines.specs.Fields.{callOf}
 use Rattle.lines.specs.Reading.{Reading, fields, wrongAt, noLine, lineOf}
 use Rattle.lines.specs.Names.{namesLine}
 use Rattle.lines.specs.Texts.{withByte, cut, linesOf}
-use Rattle.lines.proofs.Theorems.Decimal.{digits-most}
 use Rattle.lines.proofs.Theorems.Grammar.{scan-is-grammar}
 use Rattle.lines.proofs.Theorems.Texts.{cut-most}
 use Rattle.monitor.specs.Replay.{
@@ -35,10 +34,11 @@ use Rattle.monitor.specs.Replay.{
   answersFrom,
   afterLine,
   answersOf,
+  replayed,
 }
-use Rattle.monitor.specs.Texts.{faultText}
+use Rattle.monitor.specs.Texts.{orFault}
 use Rattle.monitor.specs.AnswerTable.{answerNames, answerLine, answerLines, answerText, AnswersFit}
-use Rattle.monitor.proofs.Theorems.Files.{lines-read, file-most}
+use Rattle.monitor.proofs.Theorems.Files.{lines-read, file-most, five-digits}
 use Rattle.monitor.proofs.Theorems.Replayed.{answer-each}
 
 -- ---- the places
@@ -120,22 +120,18 @@ answers-small k few b (fields f ∷ ls) h = (omega (arith, answer-most b (callOf
 answers-small k few b (wrongAt place ∷ ls) h = (omega (arith, h .0), answers-small k few b ls (h .1))
 answers-small k few b (noLine ∷ ls) h = (omega arith, answers-small k few b ls (h .1))
 
--- such a number has at most 5 digits
-digits-five : (n : ℕ) → n ≤ fileLimit → length (decimal n) ≤ 5
-digits-five n h = digits-most n 4 (omega arith)
-
 -- A line has at most 18 bytes.
 line-most : (line : ℕ) (a : Answered) → line ≤ fileLimit → Small a → length (answerLine line a) ≤ 18
 line-most line (numbered n) few small =
     let front = length-append (decimal line) (bytes ",") in
     let fields = length-append (decimal line ++ bytes ",") (decimal n) in
     let all = length-append (decimal line ++ bytes "," ++ decimal n) (bytes ",-\n") in
-    omega (arith, digits-five line few, digits-five n small)
+    omega (arith, five-digits line few, five-digits n small)
 line-most line (wrongLine place) few small =
     let front = length-append (decimal line) (bytes ",wrong,") in
     let fields = length-append (decimal line ++ bytes ",wrong,") (decimal place) in
     let all = length-append (decimal line ++ bytes ",wrong," ++ decimal place) (bytes "\n") in
-    omega (arith, digits-five line few, digits-five place small)
+    omega (arith, five-digits line few, five-digits place small)
 
 -- So the lines have at most so many times that.
 lines-most : (line : ℕ) (answers : List Answered) → line + length answers ≤ fileLimit + 1 → All Small answers
@@ -179,10 +175,11 @@ module _ (s : List ℕ) (sound : isFaulty s ≡ false) where
 
 -- No file's answers take more.
 pub answers-fit : AnswersFit
-unfolding answerText
+unfolding answerText replayed
 answers-fit s = go (isFaulty s) refl
   where
-    go : (t : Bool) → isFaulty s ≡ t → length (cond t faultText (answerNames ++ answerLines 1 (answersOf s))) ≤ 1179648
+    go : (t : Bool) → isFaulty s ≡ t
+        → length (orFault (refused t 10 accepted) (answerNames ++ answerLines 1 (answersOf s))) ≤ 1179648
     go true faulty = omega arith
     go false sound =
         let few = answers-few s sound in

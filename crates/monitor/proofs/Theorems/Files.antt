@@ -7,9 +7,11 @@ use mathlib.Core.List.{List, []}
 use lib.ListN.{length, drop, length-append}
 use borrow.Author.Tests.{ltb-false}
 use Rattle.book.proofs.Theorems.Sums.{or-false}
+use Rattle.lines.specs.Decimal.{decimal}
 use Rattle.lines.specs.Reading.{nextAt}
 use Rattle.lines.specs.Names.{namesLine, hasNames}
 use Rattle.lines.specs.Texts.{linesOf}
+use Rattle.lines.proofs.Theorems.Decimal.{digits-most}
 use Rattle.lines.proofs.Theorems.Names.{starts-with, names-next}
 use Rattle.monitor.specs.Replay.{fileLimit, isFaulty, callLines}
 
@@ -47,3 +49,7 @@ names-within s sound =
 pub file-most : (s : List ℕ) → isFaulty s ≡ false → length s ≤ fileLimit
 unfolding isFaulty
 file-most s sound = ltb-false _ _ (or-false (not (hasNames s)) _ sound .1)
+
+-- A number that is no more has at most 5 digits.
+pub five-digits : (n : ℕ) → n ≤ fileLimit → length (decimal n) ≤ 5
+five-digits n h = digits-most n 4 (omega arith)

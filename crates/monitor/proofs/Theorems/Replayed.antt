@@ -2,9 +2,10 @@
 -- Assumes nothing.
 use Prim.Native.Nat.{ℕ, suc, _+_, _≤_}
 use native.Mathlib.Omega.{arith}
-use mathlib.Core.Path.{_≡_, refl, sym, ap, _∙_}
+use mathlib.Core.Path.{_≡_, refl, sym, ap, ap₂, _∙_}
 use mathlib.Core.Bool.{Bool, true, false, cond, not}
-use mathlib.Core.List.{List, [], _∷_}
+use mathlib.Core.List.{List, [], _∷_, map}
+use borrow.Author.Tests.{le-ltb}
 use lib.ListN.{length, length-map, length-drop, drop}
 use Rattle.book.specs.declared.book.Book.{Book}
 use Rattle.book.specs.declared.calls.Call.{Call}
@@ -15,9 +16,10 @@ use Rattle.lines.specs.Fields.{callOf}
 use Rattle.book.specs.History.{Event, acceptedCalls}
 use Rattle.book.specs.Balance.{step, run, afterCalls, bookAfter}
 use Rattle.book.proofs.Theorems.Demand3.{demand3}
-use Rattle.lines.specs.Reading.{Reading, fields, wrongAt, noLine, lineOf}
+use Rattle.lines.specs.Reading.{Reading, fields, wrongAt, noLine, asRead, lineOf}
 use Rattle.lines.specs.Names.{namesLine}
 use Rattle.lines.specs.Texts.{cut, linesOf}
+use Rattle.lines.proofs.Theorems.Table.{call-of-fields}
 use Rattle.lines.proofs.Theorems.Texts.{cut-most}
 use Rattle.monitor.specs.Replay.{
   fileLimit,
@@ -34,8 +36,8 @@ use Rattle.monitor.specs.Replay.{
   replayed,
 }
 use Rattle.monitor.specs.Demand3.{callsIn, callsOf, BalancesFor}
-use Rattle.monitor.specs.Counts.{CountsAreLines}
-use Rattle.monitor.proofs.Theorems.Files.{no-lines, file-most}
+use Rattle.monitor.specs.Counts.{CountsAreLines, CallsAreRead}
+use Rattle.monitor.proofs.Theorems.Files.{no-lines, lines-read, file-most}
 
 -- ---- the book
 
@@ -114,3 +116,17 @@ counts-most s = go (isFaulty s) refl
     go false sound =
         let behind = drop (length namesLine) s in
         omega (arith, counts-are-lines s .lines sound, cut-most behind, length-drop (length namesLine) s, file-most s sound)
+
+-- ---- the calls
+
+-- Lines that are read as some calls have these calls.
+lines-calls : (calls : List Call) → callsIn (map asRead calls) ≡ calls
+lines-calls [] = refl
+lines-calls (c ∷ calls) = ap₂ _∷_ (call-of-fields c) (lines-calls calls)
+
+-- A file that reads as some calls has these.
+pub calls-are-read : CallsAreRead
+unfolding callLines isFaulty
+calls-are-read s calls read short =
+    let sound : isFaulty s ≡ false = rw (read .0, le-ltb fileLimit (length s) short) in
+    ap callsIn (lines-read s sound ∙ read .1) ∙ lines-calls calls

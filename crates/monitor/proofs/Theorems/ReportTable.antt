@@ -26,6 +26,7 @@ use Rattle.lines.specs.Grammar.{behind, joined}
 use Rattle.lines.proofs.Theorems.Decimal.{digits-most}
 use Rattle.reports.specs.Reports.{Reported, reportOf, rowsOf, sumsOf, failsIn, reportFrom, daysRefused, reportAnswer}
 use Rattle.monitor.specs.Replay.{replayed}
+use Rattle.monitor.proofs.Theorems.Lines.{lines-from-most}
 use Rattle.monitor.specs.Texts.{faultText}
 use Rattle.monitor.specs.ReportTable.{
   Days,
@@ -35,6 +36,7 @@ use Rattle.monitor.specs.ReportTable.{
   durationText,
   reportLine,
   lineGiven,
+  categoryLine,
   categoryLines,
   linesGiven,
   reportsOver,
@@ -111,22 +113,10 @@ by-answer P b first last category range days given = go (leb category categoryCo
         given (ltb-false _ _ (run .0)) (ltb-true _ _ (closed .1)) (leb-true _ _ s)
 
 -- A category's line is no longer, where there is one.
-given-most : (b : Book) (first last category : ℕ)
-    → length (lineGiven first last category (reportAnswer b first last category)) ≤ lineMost
+given-most : (b : Book) (first last category : ℕ) → length (categoryLine b first last category) ≤ lineMost
 given-most b first last category =
     by-answer (λ g. length (lineGiven first last category g) ≤ lineMost) b first last category (omega arith) (omega arith)
     (line-most (rowsOf b category) first last category)
-
--- The lines of n categories are n times that at the most.
-lines-most : (b : Book) (first last category n : ℕ) → length (categoryLines b first last category n) ≤ n * lineMost
-unfolding categoryLines
-lines-most b first last category zero = omega arith
-lines-most b first last category (suc n) =
-    let line = lineGiven first last category (reportAnswer b first last category) in
-    let others = categoryLines b first last (suc category) n in
-    let first-most = given-most b first last category in
-    let others-most = lines-most b first last (suc category) n in
-    omega (arith, length-append line others)
 
 -- a bound on the bytes of a run of days: the names line, and a line for each category 0 to 9
 abbrev runMost : ℕ
@@ -137,7 +127,9 @@ run-most : (b : Book) (first last : ℕ) → length (reportsOver b first last) �
 unfolding reportsOver joined behind decimal digits
 run-most b first last =
     by-answer (λ g. length (reportNames ++ linesGiven b first last g) ≤ runMost) b first last 0 (omega arith) (omega arith)
-    (λ order running small. let lines = lines-most b first last 0 (suc categoryCount) in omega arith)
+    (λ order running small.
+    let lines = lines-from-most (categoryLine b first last) lineMost 0 (suc categoryCount) (λ category h. given-most b first last category) in
+    omega (arith, length-append reportNames (categoryLines b first last)))
 
 -- ---- the whole
 

@@ -22,8 +22,10 @@ use Rattle.reports.specs.RowText.{lineBound}
 use Rattle.reports.proofs.Theorems.WholeLines.{line-most}
 use Rattle.monitor.specs.Replay.{fileLimit, isFaulty, replayed}
 use Rattle.monitor.specs.Demand3.{callsOf}
-use Rattle.monitor.specs.Texts.{faultText}
-use Rattle.monitor.specs.Table.{tableNames, lineGiven, dayLine, dayLines, countLines, tableOf, TablesFit}
+use Rattle.monitor.specs.Texts.{faultText, linesFrom}
+use Rattle.monitor.specs.Table.{tableNames, lineGiven, dayLine, countLines, tableOf, TablesFit}
+use Rattle.monitor.proofs.Theorems.Files.{five-digits}
+use Rattle.monitor.proofs.Theorems.Lines.{lines-from-most}
 use Rattle.monitor.proofs.Theorems.Replayed.{book-of-calls, counts-most}
 
 module _ (calls : List Call) where
@@ -40,24 +42,12 @@ module _ (calls : List Call) where
       go true = line-most calls day 0 running (omega arith)
       go false = omega arith
 
-  -- So the lines of some days have no more than so many times that.
-  days-most : (day n : ℕ) → day + n ≤ dayLimit → length (dayLines left day n) ≤ n * lineBound
-  unfolding dayLines
-  days-most day zero h = omega arith
-  days-most day (suc n) h =
-      let both = length-append (dayLine left day) (dayLines left (suc day) n) in
-      omega (arith, day-most day (omega arith), days-most (suc day) n (omega arith))
-
--- A count of at most 65,536 has at most 5 digits.
-count-digits : (n : ℕ) → n ≤ fileLimit → length (decimal n) ≤ 5
-count-digits n h = digits-most n 4 (omega arith)
-
--- So the counts with their names have at most 29 bytes.
+-- The counts with their names have at most 29 bytes.
 counts-length : (a r : ℕ) → a + r ≤ fileLimit → length (countLines a r) ≤ 29
 counts-length a r h =
     let line = joined-length (λ n. n) (a ∷ r ∷ []) in
     let both = length-append (bytes "accepted,refused\n") (joined (a ∷ r ∷ [])) in
-    omega (arith, count-digits a (omega arith), count-digits r (omega arith))
+    omega (arith, five-digits a (omega arith), five-digits r (omega arith))
 
 -- No table takes more.
 pub tables-fit : TablesFit
@@ -65,14 +55,16 @@ unfolding tableOf
 tables-fit s = go (isAccepted (replayed s .number))
   where
     days : List ℕ
-    days = dayLines (replayed s .book) 0 dayLimit
+    days = linesFrom (dayLine (replayed s .book)) 0 dayLimit
 
     counts : List ℕ
     counts = countLines (replayed s .accepted) (replayed s .refused)
 
     go : (t : Bool) → length (cond t (tableNames ++ days ++ counts) faultText) ≤ 8192
     go true =
-        let most : length days ≤ dayLimit * lineBound = rw (book-of-calls s) (days-most (callsOf s) 0 dayLimit (omega arith)) in
+        let most : length days ≤ dayLimit * lineBound =
+        lines-from-most (dayLine (replayed s .book)) lineBound 0 dayLimit
+        (λ day h. rw (book-of-calls s) (day-most (callsOf s) day (omega arith))) in
         let front = length-append tableNames days in
         let both = length-append (tableNames ++ days) counts in
         omega (arith, counts-length _ _ (counts-most s))

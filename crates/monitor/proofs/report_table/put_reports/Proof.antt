@@ -1,26 +1,19 @@
 -- `put_reports` meets its contract: the file's answer says whether there are reports. Assumes nothing.
-use mathlib.Core.Path.{_≡_}
+use mathlib.Core.Path.{_≡_, ap, _∙_}
 use borrow.Author.Needs.{needs}
 use Rattle.book.specs.declared.calls.Answer.{Answer}
-use Rattle.book.specs.declared.calls.Refusal.{Refusal}
-use Rattle.book.proofs.AnswerNumbers.{not-accepted}
-use Rattle.monitor.specs.Texts.{faultText}
 use Rattle.monitor.specs.Replay.{ReplayedFile, replayedBy}
 use Rattle.monitor.specs.ReportTable.{Days, reportsOf, reportTableOf}
+use Rattle.monitor.proofs.Functions.Listing.{taken-text, faulty-text}
 use Rattle.monitor.proofs.report_table.put_reports.Statement.{statement}
 use Rattle.monitor.proofs.report_table.put_reports.Tie as tie
 
--- A file that is taken has the reports of its days.
+-- A file that was taken has the reports of its days.
 taken-reports : (replay : ReplayedFile) (days known : Days) → replay .answer ≡ Answer.Accepted → days ≡ known
     → reportTableOf (replayedBy replay) days ≡ reportsOf (replay .book) known
 unfolding reportTableOf
-taken-reports replay days known e same = rw (e, same)
-
--- A faulty one has none.
-faulty-text : (replay : ReplayedFile) (days : Days) (refusal : Refusal) → replay .answer ≡ Answer.Refused refusal
-    → reportTableOf (replayedBy replay) days ≡ faultText
-unfolding reportTableOf
-faulty-text replay days refusal e = rw (e, not-accepted refusal)
+taken-reports replay days known taken same =
+    taken-text (replay .answer) (reportsOf (replay .book) days) taken ∙ ap (reportsOf (replay .book)) same
 
 -- all closed days
 returns : tie.Need-returns
@@ -47,11 +40,12 @@ returns-2 c =
 
 -- a faulty file
 returns-3 : tie.Need-returns-3
+unfolding reportTableOf
 returns-3 c =
     let put = c .before .before in
     let arm = put .before .before in
     let given = arm .before .before .before .args in
-    rw (faulty-text (given .replay) (given .days) _ (arm .enum-told3 .given .1)) (put .put-fault .ensures)
+    rw (faulty-text (given .replay .answer) _ _ (arm .enum-told3 .given .1)) (put .put-fault .ensures)
 
 pub put-reports-spec : {M : Type 1} → statement M
 put-reports-spec =
