@@ -2,8 +2,8 @@
 use native.Mathlib.Omega.{arith}
 use borrow.Author.Needs.{needs}
 use Rattle.reports.proofs.Theorems.WholeLines.{count-most}
-use Rattle.examples.proofs.text.say_row.Statement.{statement}
-use Rattle.examples.proofs.text.say_row.Tie as tie
+use Rattle.library_calls.proofs.rows.say_row.Statement.{statement}
+use Rattle.library_calls.proofs.rows.say_row.Tie as tie
 
 -- The part ends with the bytes written.
 part-say-end : tie.Need-part-say-end

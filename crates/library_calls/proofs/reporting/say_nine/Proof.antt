@@ -2,8 +2,8 @@
 use Prim.Native.Nat.{_-_, _≤_}
 use native.Mathlib.Omega.{arith}
 use borrow.Author.Needs.{needs}
-use Rattle.examples.proofs.reporting.say_nine.Statement.{statement}
-use Rattle.examples.proofs.reporting.say_nine.Tie as tie
+use Rattle.library_calls.proofs.reporting.say_nine.Statement.{statement}
+use Rattle.library_calls.proofs.reporting.say_nine.Tie as tie
 
 -- no further than the end
 abbrev Inv-loop : tie.InvT-loop
