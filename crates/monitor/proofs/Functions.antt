@@ -7,5 +7,5 @@ pub mod Listing
 -- the loops over a file's lines
 pub mod Replaying
 pub mod Answering
--- what is put of a report's answer
-pub mod Reporting
+-- what is put by what comes back for a row or a report
+pub mod ByAnswer

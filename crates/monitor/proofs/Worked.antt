@@ -11,7 +11,7 @@ use Rattle.lines.specs.Reading.{digitFits, endFits, scan, lineOf}
 use Rattle.lines.specs.Names.{hasNames}
 use Rattle.lines.specs.Texts.{cut, linesOf}
 use Rattle.reports.specs.Reports.{sumsOf, reportFrom, reportAnswer}
-use Rattle.monitor.specs.Replay.{isFaulty, callLines, answersFrom, afterLines, answersOf, replayed}
+use Rattle.monitor.specs.Replay.{isFaulty, callLines, answersFrom, afterLines, answersOf, replayOf}
 use Rattle.monitor.specs.Texts.{linesFrom}
 use Rattle.monitor.specs.Table.{tableOf}
 use Rattle.monitor.specs.ReportTable.{listed, reportsOver, reportTableOf}
@@ -21,7 +21,7 @@ use Rattle.monitor.specs.Worked.{WorkedHold}
 pub worked : WorkedHold
 unfolding rate duration lateFrom failPosting failPostings place post answer places firstPlace viewOf postings pairsAfter
     afterAccepted after freshBook addedFrom cellOf rowAnswer digits decimal behind joined digitFits endFits scan lineOf
-    hasNames cut linesOf sumsOf reportFrom reportAnswer isFaulty callLines answersFrom afterLines answersOf replayed linesFrom
+    hasNames cut linesOf sumsOf reportFrom reportAnswer isFaulty callLines answersFrom afterLines answersOf replayOf linesFrom
     tableOf listed reportsOver reportTableOf answerLines answerText
 worked = record {
   table = refl;

@@ -4,7 +4,7 @@ use mathlib.Core.List.{List, [], _∷_, _++_}
 use lib.ListN.{length}
 use Rattle.lines.specs.Bytes.{bytes}
 use Rattle.lines.specs.Decimal.{decimal}
-use Rattle.monitor.specs.Replay.{Answered, numbered, wrongLine, answersOf, replayed}
+use Rattle.monitor.specs.Replay.{Answered, numbered, wrongLine, answersOf, replayOf}
 use Rattle.monitor.specs.Texts.{orFault}
 
 -- a line's number from 1, what came of it, and the place of its first wrong byte
@@ -23,7 +23,7 @@ answerLines line (a ∷ answers) = answerLine line a ++ answerLines (suc line) a
 
 -- the answers of a file
 unfoldable pub answerText : List ℕ → List ℕ
-answerText s = orFault (replayed s .number) (answerNames ++ answerLines 1 (answersOf s))
+answerText s = orFault (replayOf s .number) (answerNames ++ answerLines 1 (answersOf s))
 
 -- ---- its length
 

@@ -9,13 +9,13 @@ use Rattle.book.specs.Balance.{acceptedOf}
 use Rattle.lines.specs.Names.{namesLine}
 use Rattle.lines.specs.Texts.{cut, ReadsAs}
 use Rattle.lines.specs.Fields.{Call}
-use Rattle.monitor.specs.Replay.{fileLimit, isFaulty, replayed}
+use Rattle.monitor.specs.Replay.{fileLimit, isFaulty, replayOf}
 use Rattle.monitor.specs.Demand3.{callsOf}
 
 -- Accepted and refused together are the lines after the names line, and the accepted ones are as many as the accepted calls.
 pub record CountsAreLines (s : List ℕ) : Type 0 where
-  pub lines : isFaulty s ≡ false → replayed s .accepted + replayed s .refused ≡ length (cut (drop (length namesLine) s))
-  pub calls : replayed s .accepted ≡ length (acceptedOf (callsOf s))
+  pub lines : isFaulty s ≡ false → replayOf s .accepted + replayOf s .refused ≡ length (cut (drop (length namesLine) s))
+  pub calls : replayOf s .accepted ≡ length (acceptedOf (callsOf s))
 
 -- A file that reads as some calls, as one that is written of them does, has these calls.
 abbrev pub CallsAreRead : Type 0

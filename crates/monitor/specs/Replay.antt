@@ -88,10 +88,14 @@ pub record Replayed : Type 0 where
   pub accepted : ℕ
   pub refused : ℕ
 
--- A faulty file is 10, its book is the fresh one and its counts are 0, since none of its lines is read.
-unfoldable pub replayed : List ℕ → Replayed
-replayed s = record {
-  number = refused (isFaulty s) 10 accepted;
+-- A faulty file is 10.
+abbrev pub fileNumber : List ℕ → ℕ
+fileNumber s = refused (isFaulty s) 10 accepted
+
+-- Its book is the fresh one and its counts are 0, since none of its lines is read.
+unfoldable pub replayOf : List ℕ → Replayed
+replayOf s = record {
+  number = fileNumber s;
   book = afterLines freshBook (callLines s);
   accepted = acceptedIn (answersOf s);
   refused = refusedIn (answersOf s);

@@ -11,7 +11,7 @@ use Rattle.lines.specs.Decimal.{decimal}
 use Rattle.lines.specs.Grammar.{joined}
 use Rattle.reports.specs.Reports.{Reported, reportAnswer}
 use Rattle.reports.specs.RowText.{rowFields}
-use Rattle.monitor.specs.Replay.{Replayed, replayed}
+use Rattle.monitor.specs.Replay.{Replayed, replayOf}
 use Rattle.monitor.specs.Texts.{orFault, linesFrom}
 pub use Rattle.monitor.specs.declared.report_table.Days.{Days}
 
@@ -45,13 +45,13 @@ reportLine first last category r =
 -- ---- the lines of a run of days
 
 -- the line of a category: there is one where its report is given
-abbrev pub lineGiven : ℕ → ℕ → ℕ → Given Reported → List ℕ
-lineGiven first last category (refusedBy n) = []
-lineGiven first last category (figures r) = reportLine first last category r
+abbrev pub reportLineGiven : ℕ → ℕ → ℕ → Given Reported → List ℕ
+reportLineGiven first last category (refusedBy n) = []
+reportLineGiven first last category (figures r) = reportLine first last category r
 
 -- over a run of days
 abbrev pub categoryLine : Book → ℕ → ℕ → ℕ → List ℕ
-categoryLine b first last category = lineGiven first last category (reportAnswer b first last category)
+categoryLine b first last category = reportLineGiven first last category (reportAnswer b first last category)
 
 -- categories 0 to 9
 abbrev pub categoryLines : Book → ℕ → ℕ → List ℕ
@@ -83,7 +83,7 @@ reportTableOf r days = orFault (r .number) (reportsOf (r .book) days)
 
 -- the reports of a file
 abbrev pub reportText : List ℕ → Days → List ℕ
-reportText s days = reportTableOf (replayed s) days
+reportText s days = reportTableOf (replayOf s) days
 
 -- ---- its length
 

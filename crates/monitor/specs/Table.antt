@@ -10,7 +10,7 @@ use Rattle.book.specs.Rows.{Given, refusedBy, figures, rowAnswer}
 use Rattle.lines.specs.Bytes.{bytes}
 use Rattle.lines.specs.Grammar.{joined}
 use Rattle.reports.specs.RowText.{rowLine}
-use Rattle.monitor.specs.Replay.{Replayed, replayed}
+use Rattle.monitor.specs.Replay.{Replayed, replayOf}
 use Rattle.monitor.specs.Texts.{orFault, linesFrom}
 
 -- n number, v value
@@ -18,13 +18,13 @@ abbrev pub tableNames : List ℕ
 tableNames = bytes "day,total_n,settled_n,sec_n,cash_n,total_v,settled_v,sec_v,cash_v,isd_v\n"
 
 -- the line of a day: there is one where its row is given
-abbrev pub lineGiven : ℕ → Given Row → List ℕ
-lineGiven day (refusedBy n) = []
-lineGiven day (figures r) = rowLine day r
+abbrev pub rowLineGiven : ℕ → Given Row → List ℕ
+rowLineGiven day (refusedBy n) = []
+rowLineGiven day (figures r) = rowLine day r
 
 -- over all categories
 abbrev pub dayLine : Book → ℕ → List ℕ
-dayLine b day = lineGiven day (rowAnswer b day 0)
+dayLine b day = rowLineGiven day (rowAnswer b day 0)
 
 -- accepted and refused counts
 abbrev pub countLines : ℕ → ℕ → List ℕ
@@ -37,7 +37,7 @@ tableOf r =
 
 -- the table of a file
 abbrev pub tableText : List ℕ → List ℕ
-tableText s = tableOf (replayed s)
+tableText s = tableOf (replayOf s)
 
 -- ---- its length
 

@@ -20,7 +20,7 @@ writtenBy count buffer = record { count = count; buffer = buffer }
 abbrev pub whole : List ℕ → List ℕ → Written
 whole text buffer = record { count = length text; buffer = text ++ drop (length text) buffer }
 
--- So many bytes stand at the buffer's start, in the two forms that are asked of whoever hands on just these.
+-- So many bytes stand at the buffer's start, in the form that the part `&buffer[..count]` asks for.
 abbrev pub Counted : ℕ → List ℕ → Type 0
 Counted count buffer = (count ≤ length buffer) × (count ≡ length (take count buffer))
 

@@ -42,14 +42,14 @@ paperTable =
     ∷ [])
 
 -- the names line of reports
-abbrev reportNames : String
-reportNames = "first,last,category,total_n,settled_n,sec_n,cash_n,total_v,settled_v,sec_v,cash_v,isd_v,rate_n,rate_v,duration\n"
+abbrev reportColumns : String
+reportColumns = "first,last,category,total_n,settled_n,sec_n,cash_n,total_v,settled_v,sec_v,cash_v,isd_v,rate_n,rate_v,duration\n"
 
 -- its reports over all closed days: rates 5556 and 5758, duration 211; both pairs are in category 1
 abbrev paperReports : List ℕ
 paperReports =
     textOf
-    (reportNames
+    (reportColumns
     ∷ "0,3,0,18,8,6,4,66000,28000,22000,16000,18000,5556,5758,211\n"
     ∷ "0,3,1,18,8,6,4,66000,28000,22000,16000,18000,5556,5758,211\n"
     ∷ "0,3,2,0,0,0,0,0,0,0,0,0,0,0,-\n"
@@ -64,7 +64,7 @@ paperReports =
 
 -- a run that is refused: the names line alone, then the refusal
 abbrev refusedReports : List ℕ
-refusedReports = textOf (reportNames ∷ "refused\n" ∷ "9\n" ∷ [])
+refusedReports = textOf (reportColumns ∷ "refused\n" ∷ "9\n" ∷ [])
 
 -- ---- refused and wrong lines
 

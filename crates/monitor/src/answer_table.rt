@@ -1,6 +1,8 @@
 // What came of each line of a call file.
 ghost use mathlib.Core.Path.{_≡_};
 ghost use mathlib.Core.Bool.{false};
+ghost use mathlib.Core.List.{_++_};
+ghost use Rattle.lines.specs.Decimal.{decimal};
 ghost use Rattle.lines.specs.Writing.{Put};
 ghost use Rattle.monitor.specs.Replay.{isFaulty, numbered, wrongLine, answersOf};
 ghost use Rattle.monitor.specs.Texts.{writtenBy, whole, Counted};
@@ -18,24 +20,35 @@ use lines::writing::put_number;
 // As many bytes as the answers may take.
 pub const ANSWER_ROOM: usize = 1179648;
 
+// A line's number, another number, and the bytes between and behind them.
+fn put_answer(
+    buffer: &mut [u8],
+    at: usize,
+    line: u64,
+    between: &[u8],
+    number: u64,
+    behind: &[u8],
+) -> usize
+    ensures { λ r. ⌜ Put (now (buffer .entry)) at (decimal line ++ now (between .entry) ++ decimal number ++ now (behind .entry)) r (now (buffer .exit)) ⌝ }
+{
+    let end_of_line = put_number(buffer, at, line);
+    let start = put_bytes(buffer, end_of_line, between);
+    let end = put_number(buffer, start, number);
+    put_bytes(buffer, end, behind)
+}
+
 // The line of a call that was made: the number that came back, and no place.
 fn put_made(buffer: &mut [u8], at: usize, line: u64, number: u64) -> usize
     ensures { λ r. ⌜ Put (now (buffer .entry)) at (answerLine line (numbered number)) r (now (buffer .exit)) ⌝ }
 {
-    let behind_line = put_number(buffer, at, line);
-    let behind_comma = put_bytes(buffer, behind_line, b",");
-    let behind_number = put_number(buffer, behind_comma, number);
-    put_bytes(buffer, behind_number, b",-\n")
+    put_answer(buffer, at, line, b",", number, b",-\n")
 }
 
 // The line of a wrong line: the place of its first wrong byte.
 fn put_wrong(buffer: &mut [u8], at: usize, line: u64, place: u64) -> usize
     ensures { λ r. ⌜ Put (now (buffer .entry)) at (answerLine line (wrongLine place)) r (now (buffer .exit)) ⌝ }
 {
-    let behind_line = put_number(buffer, at, line);
-    let behind_word = put_bytes(buffer, behind_line, b",wrong,");
-    let behind_place = put_number(buffer, behind_word, place);
-    put_bytes(buffer, behind_place, b"\n")
+    put_answer(buffer, at, line, b",wrong,", place, b"\n")
 }
 
 // A line for each line of a file that is not faulty.

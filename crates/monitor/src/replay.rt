@@ -1,6 +1,6 @@
 // A call file replayed from a fresh book. Document 01, 'The calls as text'.
 ghost use mathlib.Core.Path.{_≡_};
-ghost use Rattle.monitor.specs.Replay.{isFaulty, replayed, replayedBy};
+ghost use Rattle.monitor.specs.Replay.{isFaulty, replayOf, replayedBy};
 ghost use Rattle.monitor.specs.Demand3.{callsOf, BalancesFor};
 use book::book::Book;
 use book::calls::Answer;
@@ -37,7 +37,7 @@ pub fn is_faulty(text: &[u8]) -> bool
 
 // The lines of a file, each call made on the book that the call before handed back.
 pub fn replay(text: &[u8]) -> ReplayedFile
-    ensures replays { λ r. ⌜ replayedBy r ≡ replayed (now (text .entry)) ⌝ }
+    ensures replays { λ r. ⌜ replayedBy r ≡ replayOf (now (text .entry)) ⌝ }
     ensures balances { λ r. ⌜ BalancesFor (callsOf (now (text .entry))) (r .book) ⌝ }
 {
     let mut book = Book::fresh();

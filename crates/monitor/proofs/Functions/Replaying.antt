@@ -3,7 +3,7 @@
 use Prim.Native.Nat.{ℕ, _+_, _≤_, _<_}
 use native.Mathlib.Nat.{add-zero}
 use native.Mathlib.Omega.{arith}
-use mathlib.Core.Path.{_≡_, refl, sym, ap, _∙_, subst⁻¹}
+use mathlib.Core.Path.{_≡_, sym, ap, _∙_, subst⁻¹}
 use mathlib.Core.Bool.{Bool, true, false, not}
 use mathlib.Core.List.{List, [], _∷_}
 use lib.ListN.{length, drop}
@@ -34,7 +34,7 @@ use Rattle.monitor.specs.Replay.{
   refusedIn,
   answersOf,
   ReplayedFile,
-  replayed,
+  replayOf,
   replayedBy,
 }
 use Rattle.monitor.specs.Demand3.{callsOf, BalancesFor}
@@ -51,18 +51,18 @@ leftFrom s at = linesOf (drop at s)
 
 module _ (s : List ℕ) (at : ℕ) (b : Book) (l : Reading) (here : lineAt s at ≡ l) (more : at < length s) where
   -- the line here and those behind it
-  lines-next : leftFrom s at ≡ l ∷ leftFrom s (nextAt s at)
-  lines-next = lines-from s at .line more ∙ ap (λ x. x ∷ leftFrom s (nextAt s at)) here
+  lines-here : leftFrom s at ≡ l ∷ leftFrom s (nextAt s at)
+  lines-here = lines-from s at .line more ∙ ap (λ x. x ∷ leftFrom s (nextAt s at)) here
 
   -- the book goes on from the one that this line leaves
-  pub book-next : afterLines b (leftFrom s at) ≡ afterLines (afterLine b l) (leftFrom s (nextAt s at))
+  book-next : afterLines b (leftFrom s at) ≡ afterLines (afterLine b l) (leftFrom s (nextAt s at))
   unfolding afterLines
-  book-next = ap (afterLines b) lines-next
+  book-next = ap (afterLines b) lines-here
 
   -- and so do the answers, behind this line's
   pub answers-next : answersFrom b (leftFrom s at) ≡ answerTo b l ∷ answersFrom (afterLine b l) (leftFrom s (nextAt s at))
   unfolding answersFrom
-  answers-next = ap (answersFrom b) lines-next
+  answers-next = ap (answersFrom b) lines-here
 
 -- What a correct line's call hands back is what comes of the line, and the book that the line leaves.
 module _ (b : Book) (call : Call) (r : Outcome) (applied : Applied b call r) where
@@ -81,13 +81,13 @@ module _ (b : Book) (call : Call) (r : Outcome) (applied : Applied b call r) whe
 pub record ReplaysFrom (s : List ℕ) (b : Book) (taken turned at : ℕ) : Type 0 where
   pub few : taken + turned ≤ at
   pub inside : at ≤ length s
-  pub book : afterLines b (leftFrom s at) ≡ replayed s .book
-  pub accepted : taken + acceptedIn (answersFrom b (leftFrom s at)) ≡ replayed s .accepted
-  pub refused : turned + refusedIn (answersFrom b (leftFrom s at)) ≡ replayed s .refused
+  pub book : afterLines b (leftFrom s at) ≡ replayOf s .book
+  pub accepted : taken + acceptedIn (answersFrom b (leftFrom s at)) ≡ replayOf s .accepted
+  pub refused : turned + refusedIn (answersFrom b (leftFrom s at)) ≡ replayOf s .refused
 
 -- Behind the names line nothing is counted yet.
 pub replay-start : (s : List ℕ) → isFaulty s ≡ false → ReplaysFrom s freshBook 0 0 (nextAt s 0)
-unfolding replayed answersOf
+unfolding replayOf answersOf
 replay-start s sound = record {
   few = omega arith;
   inside = names-within s sound;
@@ -126,22 +126,22 @@ module _ (s : List ℕ) (b : Book) (taken turned at : ℕ) (more : at < length s
 -- With no line left the book and the counts are those of the file.
 pub replay-end : (s : List ℕ) (b : Book) (taken turned at : ℕ) → isFaulty s ≡ false → length s ≤ at
     → ReplaysFrom s b taken turned at
-    → record { number = 0; book = b; accepted = taken; refused = turned } ≡ replayed s
-unfolding replayed afterLines answersFrom
+    → record { number = 0; book = b; accepted = taken; refused = turned } ≡ replayOf s
+unfolding replayOf afterLines answersFrom
 replay-end s b taken turned at sound end so =
     let none : leftFrom s at ≡ [] = lines-from s at .none end in
-    let book : b ≡ replayed s .book = rw none at (so .book) in
-    let accepted : taken ≡ replayed s .accepted = omega (arith, so .accepted, ap (λ ls. acceptedIn (answersFrom b ls)) none) in
-    let refused : turned ≡ replayed s .refused = omega (arith, so .refused, ap (λ ls. refusedIn (answersFrom b ls)) none) in
+    let book : b ≡ replayOf s .book = rw none at (so .book) in
+    let accepted : taken ≡ replayOf s .accepted = omega (arith, so .accepted, ap (λ ls. acceptedIn (answersFrom b ls)) none) in
+    let refused : turned ≡ replayOf s .refused = omega (arith, so .refused, ap (λ ls. refusedIn (answersFrom b ls)) none) in
     rw (sound, ← book, ← accepted, ← refused)
 
 -- A faulty file is refused by 10, and none of its lines is read.
 pub replay-faulty : (s : List ℕ) → isFaulty s ≡ true
-    → record { number = 10; book = freshBook; accepted = 0; refused = 0 } ≡ replayed s
-unfolding replayed callLines answersOf afterLines answersFrom
+    → record { number = 10; book = freshBook; accepted = 0; refused = 0 } ≡ replayOf s
+unfolding replayOf callLines answersOf afterLines answersFrom
 replay-faulty s faulty = rw faulty
 
 -- What stands for the file replayed has its balance too.
-pub with-balance : (s : List ℕ) (r : ReplayedFile) → replayedBy r ≡ replayed s
-    → (replayedBy r ≡ replayed s) × BalancesFor (callsOf s) (r .book)
+pub with-balance : (s : List ℕ) (r : ReplayedFile) → replayedBy r ≡ replayOf s
+    → (replayedBy r ≡ replayOf s) × BalancesFor (callsOf s) (r .book)
 with-balance s r same = (same, subst⁻¹ (BalancesFor (callsOf s)) (ap (λ x. x .book) same) (file-balances s))

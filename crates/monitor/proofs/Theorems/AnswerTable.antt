@@ -32,12 +32,11 @@ use Rattle.monitor.specs.Replay.{
   numbered,
   wrongLine,
   answersFrom,
-  afterLine,
   answersOf,
-  replayed,
+  replayOf,
 }
 use Rattle.monitor.specs.Texts.{orFault}
-use Rattle.monitor.specs.AnswerTable.{answerNames, answerLine, answerLines, answerText, AnswersFit}
+use Rattle.monitor.specs.AnswerTable.{answerNames, answerLine, answerLines, answerText, answerRoom, AnswersFit}
 use Rattle.monitor.proofs.Theorems.Files.{lines-read, file-most, five-digits}
 use Rattle.monitor.proofs.Theorems.Replayed.{answer-each}
 
@@ -175,11 +174,11 @@ module _ (s : List ℕ) (sound : isFaulty s ≡ false) where
 
 -- No file's answers take more.
 pub answers-fit : AnswersFit
-unfolding answerText replayed
+unfolding answerText replayOf
 answers-fit s = go (isFaulty s) refl
   where
     go : (t : Bool) → isFaulty s ≡ t
-        → length (orFault (refused t 10 accepted) (answerNames ++ answerLines 1 (answersOf s))) ≤ 1179648
+        → length (orFault (refused t 10 accepted) (answerNames ++ answerLines 1 (answersOf s))) ≤ answerRoom
     go true faulty = omega arith
     go false sound =
         let few = answers-few s sound in

@@ -32,8 +32,7 @@ use Rattle.monitor.specs.Replay.{
   acceptedIn,
   refusedIn,
   answersOf,
-  Replayed,
-  replayed,
+  replayOf,
 }
 use Rattle.monitor.specs.Demand3.{callsIn, callsOf, BalancesFor}
 use Rattle.monitor.specs.Counts.{CountsAreLines, CallsAreRead}
@@ -51,12 +50,12 @@ calls-book b h (wrongAt place ∷ ls) = calls-book b h ls
 calls-book b h (noLine ∷ ls) = calls-book b h ls
 
 -- The book of a file is that of its calls from a fresh book.
-pub book-of-calls : (s : List ℕ) → replayed s .book ≡ bookAfter (callsOf s)
-unfolding replayed afterCalls
+pub book-of-calls : (s : List ℕ) → replayOf s .book ≡ bookAfter (callsOf s)
+unfolding replayOf afterCalls
 book-of-calls s = sym (calls-book freshBook [] (callLines s))
 
 -- So it balances.
-pub file-balances : (s : List ℕ) → BalancesFor (callsOf s) (replayed s .book)
+pub file-balances : (s : List ℕ) → BalancesFor (callsOf s) (replayOf s .book)
 file-balances s = rw (book-of-calls s) (demand3 (callsOf s))
 
 -- ---- the counts
@@ -100,15 +99,15 @@ accepted-calls b h (noLine ∷ ls) = omega (arith, accepted-calls b h ls)
 
 -- The counts are those of the lines.
 pub counts-are-lines : (s : List ℕ) → CountsAreLines s
-unfolding replayed answersOf afterCalls callLines linesOf acceptedCalls
+unfolding replayOf answersOf afterCalls callLines linesOf acceptedCalls
 counts-are-lines s = record {
   lines = λ sound. counted-once (answersOf s) ∙ answer-each freshBook (callLines s) ∙ rw sound (length-map (cut (drop (length namesLine) s)) lineOf);
   calls = omega (arith, accepted-calls freshBook [] (callLines s));
 }
 
 -- They are no more than a file may have bytes.
-pub counts-most : (s : List ℕ) → replayed s .accepted + replayed s .refused ≤ fileLimit
-unfolding replayed answersOf answersFrom
+pub counts-most : (s : List ℕ) → replayOf s .accepted + replayOf s .refused ≤ fileLimit
+unfolding replayOf answersOf answersFrom
 counts-most s = go (isFaulty s) refl
   where
     go : (t : Bool) → isFaulty s ≡ t → acceptedIn (answersOf s) + refusedIn (answersOf s) ≤ fileLimit

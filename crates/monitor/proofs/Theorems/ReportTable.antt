@@ -1,6 +1,6 @@
 -- The reports of a file take no more bytes than they may, whatever the file and the run of days: no number of a line has
 -- more than 20 digits. Assumes nothing.
-use Prim.Native.Nat.{ℕ, zero, suc, _+_, _*_, _-_, _≤_, _<_}
+use Prim.Native.Nat.{ℕ, suc, _+_, _*_, _-_, _≤_, _<_}
 use native.Mathlib.Omega.{arith}
 use mathlib.Core.Path.{_≡_, refl}
 use mathlib.Core.Bool.{Bool, true, false, cond, not}
@@ -25,7 +25,7 @@ use Rattle.lines.specs.Decimal.{digits, decimal}
 use Rattle.lines.specs.Grammar.{behind, joined}
 use Rattle.lines.proofs.Theorems.Decimal.{digits-most}
 use Rattle.reports.specs.Reports.{Reported, reportOf, rowsOf, sumsOf, failsIn, reportFrom, daysRefused, reportAnswer}
-use Rattle.monitor.specs.Replay.{replayed}
+use Rattle.monitor.specs.Replay.{replayOf}
 use Rattle.monitor.proofs.Theorems.Lines.{lines-from-most}
 use Rattle.monitor.specs.Texts.{faultText}
 use Rattle.monitor.specs.ReportTable.{
@@ -35,7 +35,7 @@ use Rattle.monitor.specs.ReportTable.{
   reportFields,
   durationText,
   reportLine,
-  lineGiven,
+  reportLineGiven,
   categoryLine,
   categoryLines,
   linesGiven,
@@ -115,7 +115,7 @@ by-answer P b first last category range days given = go (leb category categoryCo
 -- A category's line is no longer, where there is one.
 given-most : (b : Book) (first last category : ℕ) → length (categoryLine b first last category) ≤ lineMost
 given-most b first last category =
-    by-answer (λ g. length (lineGiven first last category g) ≤ lineMost) b first last category (omega arith) (omega arith)
+    by-answer (λ g. length (reportLineGiven first last category g) ≤ lineMost) b first last category (omega arith) (omega arith)
     (line-most (rowsOf b category) first last category)
 
 -- a bound on the bytes of a run of days: the names line, and a line for each category 0 to 9
@@ -142,4 +142,4 @@ reports-most false b days = omega arith
 -- The reports of every file fit.
 pub reports-fit : ReportsFit
 unfolding reportTableOf
-reports-fit s days = reports-most (isAccepted (replayed s .number)) (replayed s .book) days
+reports-fit s days = reports-most (isAccepted (replayOf s .number)) (replayOf s .book) days

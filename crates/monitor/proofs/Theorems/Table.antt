@@ -1,10 +1,9 @@
 -- No table takes more than its buffer has: 64 lines of at most 116 bytes, and two counts of at most 5 digits. Assumes nothing.
-use Prim.Native.Nat.{ℕ, zero, suc, _+_, _*_, _≤_, _<_}
+use Prim.Native.Nat.{ℕ, _+_, _*_, _≤_, _<_}
 use native.Mathlib.Omega.{arith}
-use mathlib.Core.Path.{_≡_, refl, ap}
 use mathlib.Core.Bool.{Bool, true, false, cond, not}
 use mathlib.Core.List.{List, [], _∷_, _++_}
-use lib.ListN.{length, length-append, length-drop, drop}
+use lib.ListN.{length, length-append}
 use Rattle.book.specs.declared.book.Book.{Book}
 use Rattle.book.specs.declared.calls.Call.{Call}
 use Rattle.book.specs.Limits.{dayLimit}
@@ -12,18 +11,14 @@ use Rattle.book.specs.Answers.{isAccepted}
 use Rattle.book.specs.Rows.{rowOf, isClosed, refusedBy, figures, rowAnswer}
 use Rattle.book.specs.Balance.{bookAfter}
 use Rattle.lines.specs.Bytes.{bytes}
-use Rattle.lines.specs.Decimal.{decimal}
 use Rattle.lines.specs.Grammar.{joined}
-use Rattle.lines.specs.Names.{namesLine}
-use Rattle.lines.proofs.Theorems.Decimal.{digits-most}
 use Rattle.lines.proofs.Theorems.Joined.{joined-length}
-use Rattle.lines.proofs.Theorems.Texts.{cut-most}
 use Rattle.reports.specs.RowText.{lineBound}
 use Rattle.reports.proofs.Theorems.WholeLines.{line-most}
-use Rattle.monitor.specs.Replay.{fileLimit, isFaulty, replayed}
+use Rattle.monitor.specs.Replay.{fileLimit, replayOf}
 use Rattle.monitor.specs.Demand3.{callsOf}
 use Rattle.monitor.specs.Texts.{faultText, linesFrom}
-use Rattle.monitor.specs.Table.{tableNames, lineGiven, dayLine, countLines, tableOf, TablesFit}
+use Rattle.monitor.specs.Table.{tableNames, rowLineGiven, dayLine, countLines, tableOf, tableRoom, TablesFit}
 use Rattle.monitor.proofs.Theorems.Files.{five-digits}
 use Rattle.monitor.proofs.Theorems.Lines.{lines-from-most}
 use Rattle.monitor.proofs.Theorems.Replayed.{book-of-calls, counts-most}
@@ -38,7 +33,7 @@ module _ (calls : List Call) where
   unfolding rowAnswer
   day-most day running = go (isClosed left day)
     where
-      go : (t : Bool) → length (lineGiven day (cond (not t) (refusedBy 9) (figures (rowOf left day 0)))) ≤ lineBound
+      go : (t : Bool) → length (rowLineGiven day (cond (not t) (refusedBy 9) (figures (rowOf left day 0)))) ≤ lineBound
       go true = line-most calls day 0 running (omega arith)
       go false = omega arith
 
@@ -52,18 +47,18 @@ counts-length a r h =
 -- No table takes more.
 pub tables-fit : TablesFit
 unfolding tableOf
-tables-fit s = go (isAccepted (replayed s .number))
+tables-fit s = go (isAccepted (replayOf s .number))
   where
     days : List ℕ
-    days = linesFrom (dayLine (replayed s .book)) 0 dayLimit
+    days = linesFrom (dayLine (replayOf s .book)) 0 dayLimit
 
     counts : List ℕ
-    counts = countLines (replayed s .accepted) (replayed s .refused)
+    counts = countLines (replayOf s .accepted) (replayOf s .refused)
 
-    go : (t : Bool) → length (cond t (tableNames ++ days ++ counts) faultText) ≤ 8192
+    go : (t : Bool) → length (cond t (tableNames ++ days ++ counts) faultText) ≤ tableRoom
     go true =
         let most : length days ≤ dayLimit * lineBound =
-        lines-from-most (dayLine (replayed s .book)) lineBound 0 dayLimit
+        lines-from-most (dayLine (replayOf s .book)) lineBound 0 dayLimit
         (λ day h. rw (book-of-calls s) (day-most (callsOf s) day (omega arith))) in
         let front = length-append tableNames days in
         let both = length-append (tableNames ++ days) counts in

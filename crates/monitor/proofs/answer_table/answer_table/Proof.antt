@@ -6,7 +6,7 @@ use mathlib.Core.Bool.{true, false}
 use mathlib.Core.List.{List, _++_}
 use borrow.Author.Needs.{needs}
 use Rattle.lines.proofs.Theorems.Buffers.{put-then}
-use Rattle.monitor.specs.Replay.{isFaulty, answersOf, replayed}
+use Rattle.monitor.specs.Replay.{isFaulty, answersOf, replayOf}
 use Rattle.monitor.specs.Texts.{faultText}
 use Rattle.monitor.specs.AnswerTable.{answerNames, answerLines, answerText}
 use Rattle.monitor.proofs.Theorems.AnswerTable.{answers-fit}
@@ -16,12 +16,12 @@ use Rattle.monitor.proofs.answer_table.answer_table.Tie as tie
 
 -- the text of a faulty file
 text-faulty : (s : List ℕ) → isFaulty s ≡ true → answerText s ≡ faultText
-unfolding answerText replayed
+unfolding answerText replayOf
 text-faulty s faulty = rw faulty
 
 -- and of another
 text-taken : (s : List ℕ) → isFaulty s ≡ false → answerText s ≡ answerNames ++ answerLines 1 (answersOf s)
-unfolding answerText replayed
+unfolding answerText replayOf
 text-taken s sound = rw sound
 
 returns : tie.Need-returns

@@ -1,13 +1,12 @@
 -- `put_answers` meets its contract: each turn of its loop puts what came of the next line. Assumes nothing.
 use Prim.Native.Nat.{_-_}
 use native.Mathlib.Omega.{arith}
-use mathlib.Core.Path.{_≡_, refl, sym, ap, _∙_}
-use mathlib.Core.Bool.{false}
+use mathlib.Core.Path.{refl, sym, ap, _∙_}
 use lib.ListN.{length}
 use borrow.Author.Needs.{needs}
 use Rattle.lines.proofs.Theorems.Buffers.{put-none, put-size}
 use Rattle.lines.proofs.Theorems.Texts.{next-place}
-use Rattle.monitor.specs.Replay.{isFaulty, numbered}
+use Rattle.monitor.specs.Replay.{numbered}
 use Rattle.monitor.proofs.Theorems.Files.{file-most}
 use Rattle.monitor.proofs.Functions.Replaying.{line-here, made-answer, made-book}
 use Rattle.monitor.proofs.Functions.Answering.{AnswersUpTo, answers-start, answer-next, answers-end}

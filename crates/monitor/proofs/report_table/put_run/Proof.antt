@@ -9,7 +9,7 @@ use Rattle.lines.proofs.Theorems.Buffers.{put-then}
 use Rattle.reports.specs.declared.reports.ReportAnswer.{ReportAnswer}
 use Rattle.reports.specs.Reports.{reportGivenBy, reportAnswer}
 use Rattle.monitor.specs.ReportTable.{reportNames, linesGiven, reportsOver}
-use Rattle.monitor.proofs.Functions.Reporting.{put-given}
+use Rattle.monitor.proofs.Functions.ByAnswer.{put-given}
 use Rattle.monitor.proofs.report_table.put_run.Statement.{statement}
 use Rattle.monitor.proofs.report_table.put_run.Tie as tie
 
@@ -21,7 +21,7 @@ unfolding reportsOver
 lines-put b first last before middle after at r q answer known names same given put =
     let lines = linesGiven b first last in
     put-then before middle after at r q reportNames (lines (reportAnswer b first last 0)) names
-    (put-given lines (reportAnswer b first last 0) answer known middle after r q same given put)
+    (put-given reportGivenBy lines (reportAnswer b first last 0) answer known middle after r q same given put)
 
 -- The report is given.
 returns : tie.Need-returns

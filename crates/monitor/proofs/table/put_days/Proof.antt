@@ -1,5 +1,5 @@
 -- `put_days` meets its contract: each turn of its loop puts the line of the next day. Assumes nothing.
-use Prim.Native.Nat.{_-_, _≤_}
+use Prim.Native.Nat.{_-_}
 use native.Mathlib.Omega.{arith}
 use borrow.Author.Needs.{needs}
 use Rattle.book.specs.Limits.{dayLimit}
