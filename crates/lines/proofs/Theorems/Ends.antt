@@ -1,21 +1,22 @@
--- Where reading goes on: the line of a call has its one LF at its end, and no LF stands before the first wrong byte.
--- Assumes nothing.
-use Prim.Native.Nat.{ℕ, zero, suc, _+_, _<_}
+-- Where reading goes on: the line of a call has its one LF at its end, and no LF stands before the first wrong byte; and that
+-- no place of a wrong byte is more than the text has bytes. Assumes nothing.
+use Prim.Native.Nat.{ℕ, zero, suc, _+_, _≤_, _<_}
 use native.Mathlib.Omega.{arith}
 use mathlib.Core.Path.{_≡_, refl, sym, ap, _∙_}
-use mathlib.Core.List.{List, [], _∷_, _++_, append-assoc, append-nil}
+use mathlib.Core.List.{List, [], _∷_, _++_, map, append-assoc, append-nil}
 use mathlib.Core.Bool.{Bool, true, false, cond}
 use lib.ListN.{length, take, drop, length-append, take-append-drop}
 use lib.Seq.{length-take-le, drop-drop}
 use lib.Dec.{eqb}
 use borrow.Author.Tests.{ne-eqb}
 use Rattle.book.specs.Sums.{All}
+use Rattle.book.proofs.Theorems.Sums.{all-map}
 use Rattle.lines.specs.Bytes.{lineFeed}
 use Rattle.lines.specs.Decimal.{decimal, Digit}
 use Rattle.lines.specs.Fields.{Call, fieldsOf}
 use Rattle.lines.specs.Grammar.{behind, joined, written, Begins, FirstWrong}
-use Rattle.lines.specs.Reading.{lineAt, lineLength, nextAt}
-use Rattle.lines.specs.Texts.{GoesOn}
+use Rattle.lines.specs.Reading.{Reading, fields, wrongAt, noLine, lineOf, lineAt, lineLength, nextAt}
+use Rattle.lines.specs.Texts.{withByte, cut, linesOf, GoesOn}
 use Rattle.lines.proofs.Theorems.Decimal.{decimal-stands}
 use Rattle.lines.proofs.Theorems.Table.{fields-length}
 use Rattle.lines.proofs.Theorems.Grammar.{scan-is-grammar}
@@ -111,3 +112,44 @@ goes-on s at = record {
       let rest = ap lineLength (drop-drop place at s) in
       omega (arith, wrong-behind (drop at s) place w, rest);
 }
+
+-- ---- how far a wrong byte can stand
+
+-- A line has no more bytes than its text.
+cut-short : (s : List ℕ) → All (λ l. length l ≤ length s) (cut s)
+unfolding cut
+cut-short [] = tt
+cut-short (b ∷ bs) = go (eqb b lineFeed) (cut bs) (cut-short bs)
+  where
+    longer : (ls : List (List ℕ)) → All (λ l. length l ≤ length bs) ls → All (λ l. length l ≤ suc (length bs)) ls
+    longer = all-map _ _ (λ l h. omega arith)
+
+    go : (t : Bool) (more : List (List ℕ)) → All (λ l. length l ≤ length bs) more
+        → All (λ l. length l ≤ suc (length bs)) (cond t ((b ∷ []) ∷ more) (withByte b more))
+    go true more h = (omega arith, longer more h)
+    go false [] h = (omega arith, tt)
+    go false (l ∷ ls) h = (omega (arith, h .0), longer ls (h .1))
+
+-- a place that is no more than k, where the line is wrong
+abbrev pub PlaceMost : ℕ → Reading → Type 0
+PlaceMost k (fields f) = Unit
+PlaceMost k (wrongAt place) = place ≤ k
+PlaceMost k noLine = Unit
+
+-- The first wrong byte is within its line, or just behind it.
+place-most : (k : ℕ) (l : List ℕ) → length l ≤ k → PlaceMost k (lineOf l)
+place-most k l h = go (lineOf l) refl
+  where
+    go : (r : Reading) → lineOf l ≡ r → PlaceMost k r
+    go (fields f) e = tt
+    go (wrongAt place) e = let w = scan-is-grammar l .wrong place .0 e .1 in omega (arith, w .within)
+    go noLine e = tt
+
+-- So no place is more than the text has bytes.
+pub places-most : (s : List ℕ) → All (PlaceMost (length s)) (linesOf s)
+unfolding linesOf
+places-most s = go (cut s) (cut-short s)
+  where
+    go : (ls : List (List ℕ)) → All (λ l. length l ≤ length s) ls → All (PlaceMost (length s)) (map lineOf ls)
+    go [] h = tt
+    go (l ∷ ls) h = (place-most (length s) l (h .0), go ls (h .1))

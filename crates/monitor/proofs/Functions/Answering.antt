@@ -57,15 +57,18 @@ pub answer-next : (s before middle after : List ℕ) (at r q : ℕ) (b next : Bo
     → start < length s → lineAt s start ≡ l → answerTo b l ≡ a → next ≡ afterLine b l → to ≡ nextAt s start
     → AnswersUpTo s before at middle r b number start → Put middle r (answerLine (number + 1) a) q after
     → AnswersUpTo s before at after q next (number + 1) to
-answer-next s before middle after at r q b next number start to l a more here answer same further so put = record {
-  few = omega (arith, so .few, lines-from s start .above more);
-  inside = rw further (lines-from s start .within more);
-  put = put-more before middle after at r q (answerLines 1 (answersOf s)) (answerLine (number + 1) a)
-      (answersLeft s next (number + 1) to) (rw (left-next s b number start next to l a more here answer same further) at (so .put)) put;
-}
+answer-next s before middle after at r q b next number start to l a more here answer same further so put =
+    let left = left-next s b number start next to l a more here answer same further in
+    record {
+      few = omega (arith, so .few, lines-from s start .above more);
+      inside = rw further (lines-from s start .within more);
+      put = put-more before middle after at r q (answerLines 1 (answersOf s)) (answerLine (number + 1) a)
+          (answersLeft s next (number + 1) to) (rw left at (so .put)) put;
+    }
 
 -- With no line left all are put.
 pub answers-end : (s before after : List ℕ) (at end : ℕ) (b : Book) (number start : ℕ) → length s ≤ start
     → AnswersUpTo s before at after end b number start → Put before at (answerLines 1 (answersOf s)) end after
 answers-end s before after at end b number start done so =
-    put-all before after at end (answerLines 1 (answersOf s)) (answersLeft s b number start) (left-none s b number start done) (so .put)
+    put-all before after at end (answerLines 1 (answersOf s)) (answersLeft s b number start)
+    (left-none s b number start done) (so .put)

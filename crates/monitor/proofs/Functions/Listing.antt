@@ -14,10 +14,9 @@ use Rattle.monitor.specs.Texts.{faultText, orFault, linesFrom}
 
 -- ---- the lines
 
-module _ (line : ℕ → List ℕ) (end k : ℕ) where
-  -- those of a number and the ones behind it, up to the end
-  abbrev pub linesLeft : List ℕ
-  linesLeft = linesFrom line k (end - k)
+-- those of a number and the ones behind it, up to the end
+abbrev pub linesLeft : (ℕ → List ℕ) → ℕ → ℕ → List ℕ
+linesLeft line end k = linesFrom line k (end - k)
 
 -- its own, and those behind it
 lines-next : (line : ℕ → List ℕ) (end k : ℕ) → k < end → linesLeft line end k ≡ line k ++ linesLeft line end (k + 1)

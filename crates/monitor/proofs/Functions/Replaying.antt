@@ -64,20 +64,23 @@ module _ (s : List ℕ) (at : ℕ) (b : Book) (l : Reading) (here : lineAt s at 
   unfolding answersFrom
   answers-next = ap (answersFrom b) lines-here
 
--- What a correct line's call hands back is what comes of the line, and the book that the line leaves.
 module _ (b : Book) (call : Call) (r : Outcome) (applied : Applied b call r) where
+  -- What a correct line's call gives back is what comes of the line,
   pub made-answer : answerTo b (asRead call) ≡ numbered (answerNumber (r .answer))
   made-answer = ap numbered (ap (answerOf b) (call-of-fields call) ∙ sym (ap (λ h. h .number) applied))
 
+  -- so the line is accepted where the call is,
   pub made-accepted : (t : Bool) → t ≡ isAccepted (answerNumber (r .answer)) → isAcceptedLine (answerTo b (asRead call)) ≡ t
   made-accepted t e = ap isAcceptedLine made-answer ∙ sym e
 
+  -- and the book that it hands back is the one that the line leaves.
   pub made-book : r .book ≡ afterLine b (asRead call)
   made-book = ap (λ h. h .book) applied ∙ sym (ap (after b) (call-of-fields call))
 
 -- ---- the loop of `replay`
 
--- The lines from `at` on, made from this book and these counts on, lead to the book and the counts of the file.
+-- `taken` lines were accepted and `turned` ones turned away; the lines from `at` on, made from this book and these counts on,
+-- lead to the book and the counts of the file.
 pub record ReplaysFrom (s : List ℕ) (b : Book) (taken turned at : ℕ) : Type 0 where
   pub few : taken + turned ≤ at
   pub inside : at ≤ length s

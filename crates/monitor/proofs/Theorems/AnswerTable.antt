@@ -3,10 +3,9 @@
 use Prim.Native.Nat.{ℕ, suc, _+_, _*_, _≤_}
 use native.Mathlib.Omega.{arith}
 use mathlib.Core.Path.{_≡_, refl, ap, subst⁻¹}
-use mathlib.Core.Bool.{Bool, true, false, cond}
-use mathlib.Core.List.{List, [], _∷_, _++_, map}
+use mathlib.Core.Bool.{Bool, true, false}
+use mathlib.Core.List.{List, [], _∷_, _++_}
 use lib.ListN.{length, length-append, length-drop, length-map, drop}
-use lib.Dec.{eqb}
 use Rattle.book.specs.declared.book.Book.{Book}
 use Rattle.book.specs.declared.calls.Answer.{Answer}
 use Rattle.book.specs.declared.calls.Call.{Call}
@@ -14,15 +13,14 @@ use Rattle.book.specs.declared.calls.Refusal.{Refusal}
 use Rattle.book.specs.Sums.{All}
 use Rattle.book.specs.Answers.{answerNumber, refused, accepted}
 use Rattle.book.specs.Calls.{answerOf, freshBook}
-use Rattle.book.proofs.Theorems.Sums.{all-map}
 use Rattle.book.proofs.OneOutcome.{some-outcome}
-use Rattle.lines.specs.Bytes.{bytes, lineFeed}
+use Rattle.lines.specs.Bytes.{bytes}
 use Rattle.lines.specs.Decimal.{decimal}
 use Rattle.lines.specs.Fields.{callOf}
 use Rattle.lines.specs.Reading.{Reading, fields, wrongAt, noLine, lineOf}
 use Rattle.lines.specs.Names.{namesLine}
-use Rattle.lines.specs.Texts.{withByte, cut, linesOf}
-use Rattle.lines.proofs.Theorems.Grammar.{scan-is-grammar}
+use Rattle.lines.specs.Texts.{cut, linesOf}
+use Rattle.lines.proofs.Theorems.Ends.{PlaceMost, places-most}
 use Rattle.lines.proofs.Theorems.Texts.{cut-most}
 use Rattle.monitor.specs.Replay.{
   fileLimit,
@@ -39,47 +37,6 @@ use Rattle.monitor.specs.Texts.{orFault}
 use Rattle.monitor.specs.AnswerTable.{answerNames, answerLine, answerLines, answerText, answerRoom, AnswersFit}
 use Rattle.monitor.proofs.Theorems.Files.{lines-read, file-most, five-digits}
 use Rattle.monitor.proofs.Theorems.Replayed.{answer-each}
-
--- ---- the places
-
--- A line has no more bytes than its text.
-cut-short : (s : List ℕ) → All (λ l. length l ≤ length s) (cut s)
-unfolding cut
-cut-short [] = tt
-cut-short (b ∷ bs) = go (eqb b lineFeed) (cut bs) (cut-short bs)
-  where
-    longer : (ls : List (List ℕ)) → All (λ l. length l ≤ length bs) ls → All (λ l. length l ≤ suc (length bs)) ls
-    longer = all-map _ _ (λ l h. omega arith)
-
-    go : (t : Bool) (more : List (List ℕ)) → All (λ l. length l ≤ length bs) more
-        → All (λ l. length l ≤ suc (length bs)) (cond t ((b ∷ []) ∷ more) (withByte b more))
-    go true more h = (omega arith, longer more h)
-    go false [] h = (omega arith, tt)
-    go false (l ∷ ls) h = (omega (arith, h .0), longer ls (h .1))
-
--- a place that is no more than k, where the line is wrong
-abbrev PlaceMost : ℕ → Reading → Type 0
-PlaceMost k (fields f) = Unit
-PlaceMost k (wrongAt place) = place ≤ k
-PlaceMost k noLine = Unit
-
--- The first wrong byte is within its line, or just behind it.
-place-most : (k : ℕ) (l : List ℕ) → length l ≤ k → PlaceMost k (lineOf l)
-place-most k l h = go (lineOf l) refl
-  where
-    go : (r : Reading) → lineOf l ≡ r → PlaceMost k r
-    go (fields f) e = tt
-    go (wrongAt place) e = let w = scan-is-grammar l .wrong place .0 e .1 in omega (arith, w .within)
-    go noLine e = tt
-
--- So no place is more than the text has bytes.
-places-most : (s : List ℕ) → All (PlaceMost (length s)) (linesOf s)
-unfolding linesOf
-places-most s = go (cut s) (cut-short s)
-  where
-    go : (ls : List (List ℕ)) → All (λ l. length l ≤ length s) ls → All (PlaceMost (length s)) (map lineOf ls)
-    go [] h = tt
-    go (l ∷ ls) h = (place-most (length s) l (h .0), go ls (h .1))
 
 -- ---- the numbers
 

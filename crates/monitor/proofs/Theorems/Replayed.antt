@@ -101,7 +101,9 @@ accepted-calls b h (noLine ∷ ls) = omega (arith, accepted-calls b h ls)
 pub counts-are-lines : (s : List ℕ) → CountsAreLines s
 unfolding replayOf answersOf afterCalls callLines linesOf acceptedCalls
 counts-are-lines s = record {
-  lines = λ sound. counted-once (answersOf s) ∙ answer-each freshBook (callLines s) ∙ rw sound (length-map (cut (drop (length namesLine) s)) lineOf);
+  lines = λ sound.
+      counted-once (answersOf s) ∙ answer-each freshBook (callLines s)
+      ∙ rw sound (length-map (cut (drop (length namesLine) s)) lineOf);
   calls = omega (arith, accepted-calls freshBook [] (callLines s));
 }
 
