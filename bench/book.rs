@@ -38,6 +38,16 @@ pub struct Cell {
 }
 
 impl Cell {
+    fn add(&mut self, other: &Cell) {
+        self.settled_n = self.settled_n.saturating_add(other.settled_n);
+        self.settled_v = self.settled_v.saturating_add(other.settled_v);
+        self.securities_n = self.securities_n.saturating_add(other.securities_n);
+        self.securities_v = self.securities_v.saturating_add(other.securities_v);
+        self.cash_n = self.cash_n.saturating_add(other.cash_n);
+        self.cash_v = self.cash_v.saturating_add(other.cash_v);
+        self.isd_v = self.isd_v.saturating_add(other.isd_v);
+    }
+
     fn add_fail(&mut self, sides: Sides, value: u64, on_isd: bool) {
         match sides {
             Sides::Securities => {
@@ -168,6 +178,20 @@ impl Book {
         0
     }
 
+    pub fn lack(&mut self, id: u64, lack: u64) -> u64 {
+        if self.today >= DAYS {
+            return 1;
+        }
+        if lack > 2 {
+            return 2;
+        }
+        let Some(pair) = self.open_pair(id) else {
+            return 5;
+        };
+        pair.lack = lack as u8;
+        0
+    }
+
     pub fn settle(&mut self, id: u64, part: u64) -> u64 {
         if self.today >= DAYS {
             return 1;
@@ -195,6 +219,17 @@ impl Book {
         0
     }
 
+    pub fn cancel(&mut self, id: u64) -> u64 {
+        if self.today >= DAYS {
+            return 1;
+        }
+        let Some(pair) = self.open_pair(id) else {
+            return 5;
+        };
+        pair.rest = 0;
+        0
+    }
+
     pub fn close(&mut self) -> u64 {
         if self.today >= DAYS {
             return 1;
@@ -209,7 +244,12 @@ impl Book {
         0
     }
 
-    pub fn securities_on(&self, day: u64) -> u64 {
-        (1..=CATEGORIES).map(|c| self.cells[cell_at(day, c)].securities_v).sum()
+    // The figures of a day over all categories.
+    pub fn all_categories(&self, day: u64) -> Cell {
+        let mut sum = Cell::default();
+        for category in 1..=CATEGORIES {
+            sum.add(&self.cells[cell_at(day, category)]);
+        }
+        sum
     }
 }

@@ -1,32 +1,39 @@
-// Times the proved calls and the proved reader against plain Rust, in one run, and measures the stack that they need.
+// Times the proved calls, the proved reader and the proved table against plain Rust, in one run, and measures the stack that
+// they need.
 mod book;
 mod lines;
+mod table;
 
 use book::{Book, Entry, PAIRS};
 use lines::{next_line, read_line, Line};
 use std::hint::black_box;
 use std::time::Instant;
 
+const TABLE_ROOM: usize = 8192;
+
+// Rattle passes a lent slice as its pointer and its length.
 extern "C" {
     fn closes(times: u64) -> u64;
     fn holds(times: u64) -> u64;
     fn settles(times: u64) -> u64;
+    fn enters(times: u64) -> u64;
+    fn replaces(times: u64) -> u64;
     fn reads(times: u64) -> u64;
+    fn table_of(text: *const u8, length: usize, buffer: *mut [u8; TABLE_ROOM]) -> usize;
+}
+
+// ---- calls
+
+// The pairs that crates/timing enters.
+fn entry_of(id: u64) -> Entry {
+    Entry { id, kind: 1 + id % 4, category: 1 + id % 9, isd: 0, side: 1 + id % 2, amount: 1_000_000 + id % 65_536 }
 }
 
 // The book that crates/timing starts from: 1,024 open pairs over nine categories and four kinds, all due on day 0.
 fn full() -> Book {
     let mut book = Book::fresh();
     for id in 1..=PAIRS as u64 {
-        let entry = Entry {
-            id,
-            kind: 1 + id % 4,
-            category: 1 + id % 9,
-            isd: 0,
-            side: 1 + id % 2,
-            amount: 1_000_000 + id,
-        };
-        assert_eq!(book.enter(entry), 0);
+        assert_eq!(book.enter(entry_of(id)), 0);
     }
     book
 }
@@ -39,20 +46,37 @@ fn rust_closes(times: u64) -> u64 {
         for _ in 0..64 {
             black_box(&mut book).close();
         }
-        last = book.securities_on(63);
+        last = book.all_categories(63).securities_v;
     }
     last
 }
 
-fn rust_holds(times: u64) -> u64 {
+// How many of so many calls on the full book are accepted.
+fn accepted(times: u64, call: impl Fn(&mut Book, u64) -> u64) -> u64 {
     let mut book = full();
-    (0..times).filter(|n| black_box(&mut book).hold(1024, 1, n % 2) == 0).count() as u64
+    (0..times).filter(|&n| call(black_box(&mut book), n) == 0).count() as u64
+}
+
+fn rust_holds(times: u64) -> u64 {
+    accepted(times, |book, n| book.hold(1024, 1, n % 2))
 }
 
 fn rust_settles(times: u64) -> u64 {
-    let mut book = full();
-    (0..times).filter(|_| black_box(&mut book).settle(1024, 1) == 0).count() as u64
+    accepted(times, |book, _| book.settle(1024, 1))
 }
+
+fn rust_enters(times: u64) -> u64 {
+    accepted(times, |book, _| book.enter(entry_of(1025)))
+}
+
+fn rust_replaces(times: u64) -> u64 {
+    accepted(times, |book, n| {
+        book.cancel(1024 + n);
+        black_box(&mut *book).enter(entry_of(1025 + n))
+    })
+}
+
+// ---- texts
 
 // The file that crates/timing reads: lines of an enter, 65,536 bytes, the last line cut off.
 fn rust_reads(times: u64) -> u64 {
@@ -73,8 +97,28 @@ fn rust_reads(times: u64) -> u64 {
     sum
 }
 
+fn proved_table(file: &[u8]) -> Vec<u8> {
+    let mut buffer = [0u8; TABLE_ROOM];
+    let count = unsafe { table_of(file.as_ptr(), file.len(), &mut buffer) };
+    buffer[..count].to_vec()
+}
+
+fn rust_table(file: &[u8]) -> Vec<u8> {
+    let mut text = Vec::with_capacity(TABLE_ROOM);
+    table::table(file, &mut text);
+    text
+}
+
+// The names line of a file and so many of its lines.
+fn first_lines(file: &[u8], lines: usize) -> &[u8] {
+    let length = file.split_inclusive(|&byte| byte == b'\n').take(1 + lines).map(<[u8]>::len).sum();
+    &file[..length]
+}
+
+// ---- measures
+
 // Microseconds for each call: the best of nine runs, without the time that it takes to set up.
-fn timed(calls_each: u64, times: u64, run: fn(u64) -> u64) -> f64 {
+fn timed(calls_each: u64, times: u64, run: impl Fn(u64) -> u64) -> f64 {
     let best = |times: u64| {
         (0..9)
             .map(|_| {
@@ -88,41 +132,55 @@ fn timed(calls_each: u64, times: u64, run: fn(u64) -> u64) -> f64 {
 }
 
 // Kilobytes of stack that a call uses: the stack below is painted, and what the call left of the paint is counted.
-fn stack_of(run: fn(u64) -> u64) -> usize {
+fn stack_of(run: impl Fn(u64) -> u64 + Sync) -> usize {
     const PAINTED: usize = 8 << 20;
     const PAINT: u8 = 0xA5;
-    std::thread::Builder::new()
-        .stack_size(2 * PAINTED)
-        .spawn(move || {
-            let top = std::ptr::addr_of!(run) as usize - 512;
-            let low = top - PAINTED;
-            for at in low..top {
-                unsafe { std::ptr::write_volatile(at as *mut u8, PAINT) };
-            }
-            black_box(run(black_box(1)));
-            let clean = (low..top).take_while(|&at| unsafe { std::ptr::read_volatile(at as *const u8) } == PAINT).count();
-            (PAINTED - clean) / 1024
-        })
-        .expect("a thread")
-        .join()
-        .expect("a call")
+    let used = || {
+        let top = std::ptr::addr_of!(run) as usize;
+        let here = 0u8;
+        let top = top.min(std::ptr::addr_of!(here) as usize) - 512;
+        let low = top - PAINTED;
+        for at in low..top {
+            unsafe { std::ptr::write_volatile(at as *mut u8, PAINT) };
+        }
+        black_box(run(black_box(1)));
+        let clean = (low..top).take_while(|&at| unsafe { std::ptr::read_volatile(at as *const u8) } == PAINT).count();
+        (PAINTED - clean) / 1024
+    };
+    std::thread::scope(|scope| {
+        let thread = std::thread::Builder::new().stack_size(2 * PAINTED).spawn_scoped(scope, used);
+        thread.expect("a thread").join().expect("a call")
+    })
+}
+
+// A line of figures: both times, their ratio, and the stack of the proved side.
+fn print_line(name: &str, calls_each: u64, times: u64, proved: impl Fn(u64) -> u64 + Sync, rust: impl Fn(u64) -> u64) {
+    assert_eq!(proved(times), rust(times), "{name}: both give the same");
+    let a = timed(calls_each, times, &proved);
+    let b = timed(calls_each, times, rust);
+    println!("{name:<38}{a:>9.2} µs{b:>9.2} µs{:>8.2}{:>8} KB", a / b, stack_of(&proved));
+}
+
+// A text made so many times: the sum of its bytes at the last.
+fn repeated(times: u64, text: impl Fn() -> Vec<u8>) -> u64 {
+    (0..times).map(|_| black_box(text()).iter().map(|&byte| u64::from(byte)).sum()).last().unwrap_or(0)
 }
 
 fn main() {
-    let proved_closes: fn(u64) -> u64 = |n| unsafe { closes(n) };
-    let proved_holds: fn(u64) -> u64 = |n| unsafe { holds(n) };
-    let proved_settles: fn(u64) -> u64 = |n| unsafe { settles(n) };
-    let proved_reads: fn(u64) -> u64 = |n| unsafe { reads(n) };
-    println!("{:<34}{:>10}{:>11}{:>9}{:>11}", "", "proved", "Rust", "ratio", "stack");
-    for (name, calls_each, times, proved, rust) in [
-        ("close of 1,024 failing pairs", 64, 50, proved_closes, rust_closes as fn(u64) -> u64),
-        ("hold of the last of 1,024 pairs", 1, 3000, proved_holds, rust_holds),
-        ("settle of the last of 1,024 pairs", 1, 3000, proved_settles, rust_settles),
-        ("65,536 bytes of call lines read", 1, 100, proved_reads, rust_reads),
-    ] {
-        assert_eq!(proved(times), rust(times), "{name}: both give the same");
-        let a = timed(calls_each, times, proved);
-        let b = timed(calls_each, times, rust);
-        println!("{name:<34}{a:>7.2} µs{b:>8.2} µs{:>9.2}{:>8} KB", a / b, stack_of(proved));
+    let path = std::env::args().nth(1).expect("a call file");
+    let file = std::fs::read(path).expect("a call file");
+    assert_eq!(proved_table(&file), rust_table(&file), "both write the same table");
+    println!("{:<38}{:>12}{:>12}{:>8}{:>11}", "", "proved", "Rust", "ratio", "stack");
+    print_line("close of 1,024 failing pairs", 64, 50, |n| unsafe { closes(n) }, rust_closes);
+    print_line("hold of the last of 1,024 pairs", 1, 3000, |n| unsafe { holds(n) }, rust_holds);
+    print_line("settle of the last of 1,024 pairs", 1, 3000, |n| unsafe { settles(n) }, rust_settles);
+    print_line("enter refused, 1,024 pairs open", 1, 3000, |n| unsafe { enters(n) }, rust_enters);
+    print_line("cancel and enter in the last place", 1, 3000, |n| unsafe { replaces(n) }, rust_replaces);
+    print_line("65,536 bytes of call lines read", 1, 100, |n| unsafe { reads(n) }, rust_reads);
+    let lines = file.split_inclusive(|&byte| byte == b'\n').count() - 1;
+    for part in 0..=6 {
+        let begin = first_lines(&file, lines * part / 6);
+        let name = format!("table of {} lines, {} bytes", lines * part / 6, begin.len());
+        print_line(&name, 1, 20, |n| repeated(n, || proved_table(begin)), |n| repeated(n, || rust_table(begin)));
     }
 }

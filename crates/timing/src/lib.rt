@@ -6,20 +6,26 @@ use book::pairs::Entry;
 use book::rows::RowAnswer;
 
 mod reads; // lines to be read
+mod tables; // the table of a file
+
+// A pair due on day 0; ids side by side differ in category and kind.
+fn entry_of(id: u64) -> Entry {
+    Entry {
+        id: id,
+        kind: 1 + id % 4,
+        category: 1 + id % 9,
+        isd: 0,
+        side: 1 + id % 2,
+        amount: 1000000 + id % 65536,
+    }
+}
 
 // 1,024 open pairs over the nine categories and the four kinds, all due on day 0.
 fn full() -> Book {
     let mut book = Book::fresh();
     let mut id: u64 = 1;
     while id <= 1024 {
-        let outcome = book.enter(Entry {
-            id: id,
-            kind: 1 + id % 4,
-            category: 1 + id % 9,
-            isd: 0,
-            side: 1 + id % 2,
-            amount: 1000000 + id,
-        });
+        let outcome = book.enter(entry_of(id));
         let next = outcome.book;
         book = next;
         id += 1;
@@ -91,6 +97,48 @@ pub extern "C" fn settles(times: u64) -> u64
     let mut n: u64 = 0;
     while n < times {
         let outcome = book.settle(1024, 1);
+        let next = outcome.book;
+        let answer = outcome.answer;
+        book = next;
+        accepted += is_accepted(answer);
+        n += 1;
+    }
+    accepted
+}
+
+// So many enters into the full book: how many were accepted, which is none.
+#[no_mangle]
+pub extern "C" fn enters(times: u64) -> u64
+    ensures { λ r. ⌜ r ≤ times ⌝ }
+{
+    let mut book = full();
+    let mut accepted: u64 = 0;
+    let mut n: u64 = 0;
+    while n < times {
+        let outcome = book.enter(entry_of(1025));
+        let next = outcome.book;
+        let answer = outcome.answer;
+        book = next;
+        accepted += is_accepted(answer);
+        n += 1;
+    }
+    accepted
+}
+
+// So many times the pair in the last place is cancelled and another entered there: how many enters were accepted. Ids go up
+// to 61,023, so 60,000 times at most.
+#[no_mangle]
+pub extern "C" fn replaces(times: u64) -> u64
+    ensures { λ r. ⌜ r ≤ times ⌝ }
+{
+    let mut book = full();
+    let mut accepted: u64 = 0;
+    let mut n: u64 = 0;
+    while n < times {
+        let id = 1024 + n % 60000;
+        let cancelled = book.cancel(id);
+        let between = cancelled.book;
+        let outcome = between.enter(entry_of(id + 1));
         let next = outcome.book;
         let answer = outcome.answer;
         book = next;

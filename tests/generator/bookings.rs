@@ -1,0 +1,270 @@
+//! Files of bookings, by sort: what a depository sends, and orders that no one would.
+
+use super::desk::Desk;
+use super::random::Random;
+
+/// Numbers at the ends of the ranges of document 01 and beyond them, by column: id, kind, category, day, side, amount.
+const ENDS: [&[u64]; 6] = [
+    &[0, 1, 65_535, 65_536],
+    &[0, 1, 4, 5],
+    &[0, 1, 9, 10],
+    &[0, 63, 64],
+    &[0, 0, 1, 2, 3],
+    &[0, 1, 2, 9_999_999_999, 10_000_000_000, 10_000_000_001],
+];
+
+/// Numbers that are out of most ranges, at the ends of machine numbers, up to the largest of 11 digits.
+const BEYOND: [u64; 8] = [255, 256, 257, 65_537, 4_294_967_295, 4_294_967_296, 10_000_000_000, 99_999_999_999];
+
+pub fn file(sort: u64, random: Random) -> Vec<u8> {
+    let mut desk = Desk::new(random);
+    match sort {
+        0..=2 => months(&mut desk),
+        3 | 4 => crossing_orders(&mut desk),
+        5 => full_book(&mut desk),
+        6 => all_days(&mut desk),
+        7 | 8 => late_pairs(&mut desk),
+        9 | 10 => one_day(&mut desk),
+        11 => ends_of_ranges(&mut desk),
+        12 => spent_ids(&mut desk),
+        _ => large_values(&mut desk),
+    }
+    desk.text.into_bytes()
+}
+
+/// What a depository sends: pairs a few days before they are due, some late, and work on those that are open.
+fn months(desk: &mut Desk) {
+    for _ in 0..desk.random.between(2, 24) {
+        for _ in 0..desk.random.between(1, 14) {
+            booking(desk);
+        }
+        desk.close();
+    }
+}
+
+/// A call of a usual day.
+pub fn booking(desk: &mut Desk) {
+    let amount = desk.amount();
+    match (desk.random.between(0, 19), desk.some_open()) {
+        (0..=7, _) | (_, None) => {
+            let ahead = desk.random.pick(&[0, 0, 1, 2, 2, 3]);
+            desk.enter((desk.today + ahead).min(63), amount);
+        }
+        (8, _) => {
+            let behind = desk.random.between(1, 3);
+            desk.enter(desk.today.saturating_sub(behind), amount);
+        }
+        (9, Some(at)) => desk.line([4, desk.open[at].id, 0, 0, 0, 0, amount]),
+        (10, Some(_)) => desk.line([1, desk.last_id, 1, 1, desk.today.min(63), 1, amount]),
+        (_, Some(at)) => desk.work_on(at),
+    }
+}
+
+/// Few ids, small numbers, any order: calls cross each other on the same pairs and days.
+fn crossing_orders(desk: &mut Desk) {
+    for _ in 0..desk.random.between(10, 250) {
+        let random = &mut desk.random;
+        let id = (desk.last_id + random.between(0, 3)).saturating_sub(random.between(0, 5));
+        let (isd, small) = ((desk.today + random.between(0, 3)).saturating_sub(2), random.between(0, 5));
+        match random.between(0, 9) {
+            0..=2 => {
+                let terms = [random.between(1, 4), random.between(1, 9), isd, random.between(1, 2), random.between(1, 5)];
+                desk.line([1, id, terms[0], terms[1], terms[2], terms[3], terms[4]]);
+                desk.last_id = desk.last_id.max(id);
+            }
+            3 | 4 => {
+                let (side, on) = (random.between(1, 2), random.between(0, 1));
+                desk.line([2, id, 0, 0, 0, side, on]);
+            }
+            5 => desk.line([3, id, 0, 0, 0, small % 3, 0]),
+            6 | 7 => desk.line([4, id, 0, 0, 0, 0, small]),
+            8 if small < 2 => desk.line([5, id, 0, 0, 0, 0, 0]),
+            8 => desk.line([2, id, 0, 0, 0, small, small % 3]),
+            _ => desk.close(),
+        }
+    }
+}
+
+/// 1,024 open pairs and more: which calls free a place, and which number comes first where the book is full.
+fn full_book(desk: &mut Desk) {
+    let before = desk.random.between(0, 2);
+    for _ in 0..before {
+        desk.enter(0, 7);
+        desk.cancel(0);
+    }
+    for _ in 0..1024 {
+        let (isd, amount) = (desk.random.between(0, 2), desk.random.between(1, 9));
+        desk.enter(isd, amount);
+    }
+    for _ in 0..desk.random.between(4, 60) {
+        let at = desk.random.place(desk.open.len());
+        let pair = desk.open[at];
+        match desk.random.between(0, 9) {
+            0 => desk.line([1, desk.last_id, 1, 1, 0, 1, 5]),
+            1 => desk.line([1, desk.last_id + 1, 5, 1, 0, 1, 5]),
+            2 if pair.isd <= desk.today && pair.rest > 1 => desk.settle(at, 1),
+            3 if pair.isd <= desk.today => desk.settle(at, pair.rest),
+            4 => desk.cancel(at),
+            5 => desk.close(),
+            _ => another(desk),
+        }
+    }
+}
+
+/// One pair more; refused where the book is full, so its id may be given again.
+fn another(desk: &mut Desk) {
+    let full = desk.open.len() >= 1024;
+    let isd = desk.random.between(0, 2);
+    desk.enter(isd, 3);
+    if full {
+        desk.open.pop();
+        desk.last_id -= desk.random.between(0, 1);
+    }
+}
+
+/// All 64 days and calls behind the last one, with pairs due on the first and on the last day.
+fn all_days(desk: &mut Desk) {
+    desk.enter(63, 1_000);
+    for _ in 0..desk.random.between(62, 64) {
+        for _ in 0..desk.random.between(0, 3) {
+            booking(desk);
+        }
+        desk.close();
+    }
+    for isd in [0, 62, 63] {
+        let amount = desk.amount();
+        desk.enter(isd, amount);
+    }
+    for _ in 0..desk.random.between(0, 3) {
+        desk.close();
+    }
+    for _ in 0..desk.random.between(0, 6) {
+        let at = desk.random.place(desk.open.len());
+        desk.work_on(at);
+        desk.line([2, 1, 0, 0, 0, 3, 2]);
+        desk.enter(64, 5);
+    }
+}
+
+/// Pairs matched after their ISD, of all kinds and sides, some of them worked on at once.
+fn late_pairs(desk: &mut Desk) {
+    for _ in 0..desk.random.between(2, 40) {
+        for _ in 0..desk.random.between(0, 3) {
+            let (isd, amount) = (desk.random.between(0, desk.today + 1).min(63), desk.amount());
+            desk.enter(isd, amount);
+            if desk.random.once_in(2) {
+                desk.work_on(desk.open.len() - 1);
+            }
+        }
+        if let Some(at) = desk.some_open() {
+            desk.work_on(at);
+        }
+        desk.close();
+    }
+}
+
+/// Few pairs and few days: parts, holds, lacks and cancels on one day, over and over.
+fn one_day(desk: &mut Desk) {
+    for _ in 0..desk.random.between(1, 5) {
+        for _ in 0..desk.random.between(1, 4) {
+            let (isd, amount) = (desk.today.saturating_sub(desk.random.between(0, 1)), desk.random.between(2, 40));
+            desk.enter(isd, amount);
+        }
+        for _ in 0..desk.random.between(3, 25) {
+            let Some(at) = desk.some_open() else { break };
+            let pair = desk.open[at];
+            match desk.random.between(0, 9) {
+                0..=5 => {
+                    let part = desk.random.between(1, 1 + pair.rest / 2);
+                    desk.settle(at, part);
+                }
+                6 => desk.hold(pair.id),
+                7 => desk.line([2, pair.id, 0, 0, 0, 1 + pair.id % 2, 0]),
+                8 => desk.cancel(at),
+                _ => desk.work_on(at),
+            }
+        }
+        desk.close();
+    }
+}
+
+/// Each call with values at the ends of their ranges and beyond them, up to 11 digits.
+fn ends_of_ranges(desk: &mut Desk) {
+    for n in 0..desk.random.between(20, 120) {
+        let id = 1 + n / 2;
+        let random = &mut desk.random;
+        let mut numbers = match random.between(0, 9) {
+            0..=3 => {
+                [1, id, random.between(1, 4), random.between(1, 9), desk.today, random.between(1, 2), random.between(1, 9)]
+            }
+            4 => [2, id, 0, 0, 0, random.between(1, 2), random.between(0, 1)],
+            5 => [3, id, 0, 0, 0, random.between(0, 2), 0],
+            6 | 7 => [4, id, 0, 0, 0, 0, random.between(0, 9)],
+            8 => [5, id, 0, 0, 0, 0, 0],
+            _ => [6, 0, 0, 0, 0, 0, 0],
+        };
+        let used: &[usize] = match numbers[0] {
+            1 => &[1, 2, 3, 4, 5, 6, 6],
+            2 => &[1, 5, 6],
+            3 => &[1, 5],
+            4 => &[1, 6, 6],
+            5 => &[1],
+            _ => &[],
+        };
+        for _ in 0..random.between(0, 2).min(used.len() as u64) {
+            let column = random.pick(used);
+            numbers[column] = if random.once_in(4) { random.pick(&BEYOND) } else { random.pick(ENDS[column - 1]) };
+        }
+        desk.today += u64::from(numbers[0] == 6);
+        desk.line(numbers);
+    }
+}
+
+/// Ids that rise, stand, fall and jump to the last; refused enters whose id is given again.
+fn spent_ids(desk: &mut Desk) {
+    let mut id: u64 = 0;
+    for _ in 0..desk.random.between(8, 60) {
+        let random = &mut desk.random;
+        id = match random.between(0, 15) {
+            0 => random.pick(&[65_534, 65_535, 65_536, 0]),
+            1 | 2 => id,
+            3 => id.saturating_sub(random.between(1, 3)),
+            4 => id + random.between(2, 500),
+            _ => id + 1,
+        };
+        let kind = random.pick(&[1, 2, 3, 4, 5]);
+        let isd = desk.today.saturating_sub(random.between(0, 1));
+        desk.line([1, id, kind, 1, isd, 1, 100]);
+        match desk.random.between(0, 7) {
+            0 => desk.line([4, id, 0, 0, 0, 0, 100]),
+            1 => desk.line([5, id, 0, 0, 0, 0, 0]),
+            2 => desk.hold(id),
+            3 => desk.close(),
+            _ => {}
+        }
+    }
+}
+
+/// Pairs of the largest amounts, late by up to 63 days, so many that a rate's product passes 64 bits.
+fn large_values(desk: &mut Desk) {
+    let days = desk.random.between(61, 63);
+    for _ in 0..days {
+        desk.close();
+    }
+    let pairs = desk.random.between(1_470, 1_650);
+    for n in 0..pairs {
+        let kind = desk.random.pick(&[1, 1, 2, 3, 4]);
+        let (isd, less) = (u64::from(desk.random.once_in(9)), desk.random.between(0, 3));
+        desk.enter_kind(kind, isd, 10_000_000_000 - less);
+        if n >= 1_023 {
+            let at = desk.open.len() - 1;
+            desk.cancel(at);
+        }
+    }
+    for _ in 0..desk.random.between(0, 2) {
+        let Some(at) = desk.some_open() else { break };
+        let rest = desk.open[at].rest;
+        desk.settle(at, rest);
+    }
+    desk.close();
+}

@@ -1,0 +1,359 @@
+//! The book as the calls that it accepted. What a pair is on a day, and what a row has, is recounted from them each time.
+
+use super::calls::{Call, Entry};
+use super::mistakes::{Mistake, Planted};
+use std::ops::AddAssign;
+
+pub const DAYS: u64 = 64;
+const OPEN_AT_MOST: usize = 1024;
+
+/// SIs and their value in cents.
+#[derive(Clone, Copy, Default)]
+pub struct Figure {
+    pub number: u64,
+    pub value: u64,
+}
+
+/// The figures of a day and category; total is their sum.
+#[derive(Clone, Copy, Default)]
+pub struct Row {
+    pub settled: Figure,
+    pub securities: Figure,
+    pub cash: Figure,
+    pub isd_value: u64,
+}
+
+/// An accepted enter, the day it fell on, and the accepted calls of its id since, each with its day.
+struct Life {
+    entry: Entry,
+    matched: u64,
+    calls: Vec<(u64, Call)>,
+}
+
+/// How a pair stands after some of its calls.
+struct Standing {
+    rest: u64,
+    deliverer_holds: bool,
+    receiver_holds: bool,
+    lack: u64,
+    cancelled: Option<u64>,
+}
+
+/// Where the two SIs of a fail go.
+#[derive(Clone, Copy)]
+enum Sides {
+    Securities,
+    Cash,
+    OneEach,
+}
+
+pub struct Book {
+    lives: Vec<Life>,
+    pub today: u64,
+    planted: Planted,
+    highest_refused: u64,
+}
+
+impl AddAssign for Figure {
+    fn add_assign(&mut self, other: Figure) {
+        self.number += other.number;
+        self.value += other.value;
+    }
+}
+
+impl AddAssign for Row {
+    fn add_assign(&mut self, other: Row) {
+        self.settled += other.settled;
+        self.securities += other.securities;
+        self.cash += other.cash;
+        self.isd_value += other.isd_value;
+    }
+}
+
+impl Row {
+    pub fn fails(&self) -> Figure {
+        let mut fails = self.securities;
+        fails += self.cash;
+        fails
+    }
+
+    pub fn total(&self) -> Figure {
+        let mut total = self.fails();
+        total += self.settled;
+        total
+    }
+}
+
+impl Standing {
+    fn is_open(&self) -> bool {
+        self.rest > 0 && self.cancelled.is_none()
+    }
+}
+
+/// Document 01, 'The pair'.
+fn is_in_range(entry: &Entry, planted: Planted) -> bool {
+    let largest = planted.unless(Mistake::AmountOneMore, 10_000_000_001, 10_000_000_000);
+    let side_unused = planted.has(Mistake::SideNotAlwaysGiven) && entry.kind >= 3 && entry.side == 0;
+    (1..=65_535).contains(&entry.id)
+        && (1..=4).contains(&entry.kind)
+        && (1..=9).contains(&entry.category)
+        && entry.isd < DAYS
+        && ((1..=2).contains(&entry.side) || side_unused)
+        && (1..=largest).contains(&entry.amount)
+}
+
+impl Book {
+    pub fn fresh(planted: Planted) -> Book {
+        Book { lives: Vec::new(), today: 0, planted, highest_refused: 0 }
+    }
+
+    /// Makes a call: 0, or the number by which it is refused.
+    pub fn make(&mut self, call: Call) -> u64 {
+        let number = self.refusal(&call);
+        if number == 0 {
+            self.keep(call);
+        } else if let Call::Enter(entry) = call {
+            self.highest_refused = self.highest_refused.max(entry.id);
+        }
+        number
+    }
+
+    fn keep(&mut self, call: Call) {
+        match (call, call.id()) {
+            (Call::Enter(entry), _) => self.lives.push(Life { entry, matched: self.today, calls: Vec::new() }),
+            (_, Some(id)) => {
+                let today = self.today;
+                let life = self.lives.iter_mut().rev().find(|life| life.entry.id == id);
+                life.expect("an open pair").calls.push((today, call));
+            }
+            (_, None) => self.today += 1,
+        }
+    }
+
+    // ---- numbers given back
+
+    /// The lowest number that applies, or 0.
+    fn refusal(&self, call: &Call) -> u64 {
+        let mut numbers = self.numbers(call);
+        if self.planted.has(Mistake::ValuesBeforeFinished) && numbers.contains(&2) {
+            numbers.retain(|&n| n == 2);
+        }
+        let chosen = self.planted.unless(Mistake::HighestNumberFirst, numbers.iter().max(), numbers.iter().min());
+        chosen.copied().unwrap_or(0)
+    }
+
+    /// All numbers whose condition applies.
+    fn numbers(&self, call: &Call) -> Vec<u64> {
+        let last_day = self.planted.has(Mistake::Day63NotClosed) && self.today == 63 && matches!(call, Call::Close);
+        let mut numbers = vec![(1, self.today == DAYS || last_day)];
+        match *call {
+            Call::Enter(entry) => numbers.extend([
+                (2, !is_in_range(&entry, self.planted)),
+                (3, entry.id <= self.highest_spent()),
+                (4, self.taken() >= self.planted.unless(Mistake::FullAt1023, OPEN_AT_MOST - 1, OPEN_AT_MOST)),
+            ]),
+            Call::Hold { id, side, on } => {
+                let bad_id = self.planted.has(Mistake::HoldIdOutOfRange) && !(1..=65_535).contains(&id);
+                numbers.extend([(2, !(1..=2).contains(&side) || on > 1 || bad_id), (5, self.open(id).is_none())]);
+            }
+            Call::Lack { id, lack } => numbers.extend([(2, lack > 2), (5, self.open(id).is_none())]),
+            Call::Settle { id, part } => numbers.extend(self.settle_numbers(id, part)),
+            Call::Cancel { id } => numbers.push((5, self.open(id).is_none())),
+            Call::Close => {}
+        }
+        numbers.iter().filter(|&&(_, applies)| applies).map(|&(number, _)| number).collect()
+    }
+
+    fn settle_numbers(&self, id: u64, part: u64) -> Vec<(u64, bool)> {
+        let large = self.planted.has(Mistake::LargePartOutOfRange) && part > 10_000_000_000;
+        let Some((life, standing)) = self.open(id) else { return vec![(2, large), (5, true)] };
+        let (one, other) = (standing.deliverer_holds, standing.receiver_holds);
+        vec![
+            (2, large),
+            (6, self.today < life.entry.isd && !self.planted.has(Mistake::SettledBeforeIsd)),
+            (7, self.planted.unless(Mistake::OneHoldDoesNotStop, one && other, one || other)),
+            (8, part == 0 || part > standing.rest),
+        ]
+    }
+
+    /// The highest id accepted.
+    fn highest_spent(&self) -> u64 {
+        let accepted = self.lives.last().map_or(0, |life| life.entry.id);
+        let spent = self.planted.unless(Mistake::RefusedIdSpent, accepted.max(self.highest_refused), accepted);
+        self.planted.unless(Mistake::LastIdAgain, spent.saturating_sub(1), spent)
+    }
+
+    /// How many places are taken.
+    fn taken(&self) -> usize {
+        let since = self.planted.unless(Mistake::PlaceFreeAtClose, self.today, self.today + 1);
+        self.lives.iter().filter(|life| self.planted.has(Mistake::PlaceNeverFree) || self.was_open(life, since)).count()
+    }
+
+    /// Whether a pair is open, or was until a call of this day or a later one.
+    fn was_open(&self, life: &Life, since: u64) -> bool {
+        let ended_since = life.calls.last().is_some_and(|&(day, _)| day >= since);
+        ended_since || self.standing(life, self.today).is_open()
+    }
+
+    /// The open pair of an id.
+    fn open(&self, id: u64) -> Option<(&Life, Standing)> {
+        let life = self.lives.iter().rev().find(|life| life.entry.id == id)?;
+        Some((life, self.standing(life, self.today))).filter(|(_, standing)| standing.is_open())
+    }
+
+    // ---- the life of a pair
+
+    /// How a pair stands after its calls up to the end of a day.
+    fn standing(&self, life: &Life, day: u64) -> Standing {
+        let mut standing =
+            Standing { rest: life.entry.amount, deliverer_holds: false, receiver_holds: false, lack: 0, cancelled: None };
+        for &(on, call) in life.calls.iter().filter(|&&(on, _)| on <= day) {
+            match call {
+                Call::Hold { .. } if self.planted.has(Mistake::HoldEndsAtClose) && on < day => {}
+                Call::Lack { .. } if self.planted.has(Mistake::LackEndsAtClose) && on < day => {}
+                Call::Hold { side: 1, on, .. } => standing.deliverer_holds = on == 1,
+                Call::Hold { on, .. } => standing.receiver_holds = on == 1,
+                Call::Lack { lack, .. } => standing.lack = lack,
+                Call::Settle { part, .. } => standing.rest -= part,
+                Call::Cancel { .. } => standing.cancelled = Some(on),
+                Call::Enter(_) | Call::Close => {}
+            }
+        }
+        standing
+    }
+
+    /// What a pair gives to the row of a day, which is closed.
+    fn share(&self, life: &Life, day: u64) -> Row {
+        let mut row = Row { settled: self.settled_on(life, day), ..Row::default() };
+        let late_until = life.matched + u64::from(self.planted.has(Mistake::LateOnMatchingDayToo));
+        let late_from = self.planted.unless(Mistake::LateFromMatchingDay, late_until, life.entry.isd);
+        if (late_from..late_until).contains(&day) && life.entry.isd < life.matched {
+            row += self.late_fail(life, day);
+        }
+        if day >= life.matched && life.entry.isd <= day {
+            row += self.fail_at_close(life, day);
+        }
+        if self.planted.has(Mistake::PartSettledOnce) && row.fails().number > 0 {
+            row.settled.number = 0;
+        }
+        row
+    }
+
+    /// The parts settled on a day: 2 SIs once, and twice their value.
+    fn settled_on(&self, life: &Life, day: u64) -> Figure {
+        let parts: Vec<u64> =
+            life.calls.iter().filter(|&&(on, _)| on == day).filter_map(|&(_, call)| part_of(call)).collect();
+        let cancelled = self.standing(life, day).cancelled == Some(day);
+        if parts.is_empty() || cancelled && self.planted.has(Mistake::SettledPartCancelled) {
+            return Figure::default();
+        }
+        let counted = self.planted.unless(Mistake::PartsAsInstructions, parts.len() as u64, 1);
+        Figure { number: 2 * counted, value: 2 * parts.iter().sum::<u64>() }
+    }
+
+    /// A day from the ISD to the day before the matching: both SIs fail at full value.
+    fn late_fail(&self, life: &Life, day: u64) -> Row {
+        let by_side = if life.entry.side == 1 { Sides::Securities } else { Sides::Cash };
+        let to = match life.entry.kind {
+            _ if self.planted.has(Mistake::LateByRulesAToF) => self.sides(life, day),
+            2 if self.planted.has(Mistake::LateKind2OneEach) => Sides::OneEach,
+            3 => Sides::Securities,
+            4 => Sides::Cash,
+            _ => by_side,
+        };
+        let isd_counted = !self.planted.has(Mistake::LateIsdValueOnMatchingDay) && day == life.entry.isd;
+        self.fail(to, life.entry.amount, if isd_counted { life.entry.amount } else { 0 })
+    }
+
+    /// A close: an open pair that is due fails with its rest.
+    fn fail_at_close(&self, life: &Life, day: u64) -> Row {
+        let standing = self.standing(life, day);
+        let cancelled_today = self.planted.has(Mistake::CancelledStillFails) && standing.cancelled == Some(day);
+        let too_early = self.planted.has(Mistake::NotFailingOnIsd) && day == life.entry.isd;
+        if too_early || standing.rest == 0 || !(standing.is_open() || cancelled_today) {
+            return Row::default();
+        }
+        let moved = self.planted.has(Mistake::LateIsdValueOnMatchingDay) && day == life.matched && life.entry.isd < day;
+        let isd_value = match day == life.entry.isd || moved {
+            true => self.planted.unless(Mistake::IsdValueAtFullAmount, life.entry.amount, standing.rest),
+            false => 0,
+        };
+        let value = self.planted.unless(Mistake::FailsAtFullAmount, life.entry.amount, standing.rest);
+        self.fail(self.sides(life, day), value, isd_value)
+    }
+
+    /// Both SIs to a side, or one and its value to each.
+    fn fail(&self, to: Sides, value: u64, isd_value: u64) -> Row {
+        let both = Figure { number: 2, value: 2 * value };
+        let one = self.planted.unless(Mistake::BothHoldsInFull, both, Figure { number: 1, value });
+        let (securities, cash) = match to {
+            Sides::Securities => (both, Figure::default()),
+            Sides::Cash => (Figure::default(), both),
+            Sides::OneEach => (one, one),
+        };
+        Row { settled: Figure::default(), securities, cash, isd_value: 2 * isd_value }
+    }
+
+    /// The side of a fail at close, the first that applies: document 01, a to f.
+    fn sides(&self, life: &Life, day: u64) -> Sides {
+        use Sides::{Cash, OneEach, Securities};
+        let standing = self.standing(life, day);
+        let kind = life.entry.kind;
+        let holds = u64::from(standing.deliverer_holds) + u64::from(standing.receiver_holds);
+        let for_kind_2 = self.planted.unless(Mistake::Kind2NeedsBothHolds, 2, 1);
+        let planted = self.planted;
+        if kind == 3 {
+            planted.unless(Mistake::RuleAToCash, Cash, Securities)
+        } else if kind == 4 {
+            planted.unless(Mistake::RuleBToSecurities, Securities, Cash)
+        } else if planted.has(Mistake::LackBeforeHolds) && standing.lack != 0 {
+            if standing.lack == 1 {
+                Securities
+            } else {
+                Cash
+            }
+        } else if kind == 1 && holds == 2 || kind == 2 && holds >= for_kind_2 {
+            planted.unless(Mistake::RuleCToSecurities, Securities, OneEach)
+        } else if kind == 1 && holds == 1 {
+            let to_securities = standing.deliverer_holds != planted.has(Mistake::RuleDOtherSide);
+            if to_securities {
+                Securities
+            } else {
+                Cash
+            }
+        } else if standing.lack != 0 {
+            let to_securities = (standing.lack == 1) != planted.has(Mistake::RuleEOtherSide);
+            if to_securities {
+                Securities
+            } else {
+                Cash
+            }
+        } else {
+            planted.unless(Mistake::RuleFToCash, Cash, Securities)
+        }
+    }
+
+    // ---- rows
+
+    /// The rows of the closed days, by category 0 (all) to 9.
+    pub fn rows(&self) -> Vec<[Row; 10]> {
+        let row_of = |day: u64| {
+            let mut rows = [Row::default(); 10];
+            for life in &self.lives {
+                let share = self.share(life, day);
+                rows[0] += share;
+                rows[life.entry.category as usize] += share;
+            }
+            rows
+        };
+        (0..self.today).map(row_of).collect()
+    }
+}
+
+/// The part that a settle takes.
+fn part_of(call: Call) -> Option<u64> {
+    match call {
+        Call::Settle { part, .. } => Some(part),
+        _ => None,
+    }
+}

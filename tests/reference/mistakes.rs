@@ -1,0 +1,103 @@
+//! Mistakes that can be planted in the reference, one at a time, to see whether the comparison finds them.
+
+/// Declares the mistakes: each with whether the daily balance alone has to show it too, and what it says.
+macro_rules! mistakes {
+    ($($name:ident $by_balance:literal $says:literal)*) => {
+        #[derive(Clone, Copy, PartialEq, Debug)]
+        pub enum Mistake {
+            $($name),*
+        }
+
+        pub struct Declared {
+            pub mistake: Mistake,
+            pub by_balance: bool,
+            pub says: &'static str,
+        }
+
+        pub const ALL: &[Declared] =
+            &[$(Declared { mistake: Mistake::$name, by_balance: $by_balance, says: $says }),*];
+    };
+}
+
+mistakes! {
+    // Places and ids.
+    PlaceNeverFree false "a place stays taken when its pair is no longer open"
+    PlaceFreeAtClose false "a place comes free at the close, not at once"
+    FullAt1023 false "the 1,024th pair is refused"
+    RefusedIdSpent false "a refused enter spends its id"
+    LastIdAgain false "the id accepted last is accepted again"
+    // Late pairs.
+    LateFromMatchingDay true "a late pair fails from its matching day on"
+    LateOnMatchingDayToo true "the matching day gains the late fail beside its own"
+    LateByRulesAToF false "the missed days go by the rules of a close"
+    LateKind2OneEach false "the missed days of kind 2 go one SI to each side"
+    LateIsdValueOnMatchingDay false "a late pair's ISD value stands on its matching day"
+    // Parts, cancels and closes.
+    PartsAsInstructions true "two parts of a day are counted as two pairs of SIs"
+    PartSettledOnce true "a pair that settles a part and fails is counted once"
+    SettledPartCancelled true "a part settled on the day of the cancel vanishes"
+    CancelledStillFails true "a pair fails on the day of its cancel"
+    FailsAtFullAmount true "a fail has the amount as its value, not the rest"
+    IsdValueAtFullAmount false "the ISD value is of the amount, not of the rest"
+    NotFailingOnIsd true "a pair fails from the day behind its ISD on"
+    // The side of a fail.
+    RuleAToCash false "kind 3 to cash"
+    RuleBToSecurities false "kind 4 to securities"
+    RuleCToSecurities false "both SIs of rule c to securities"
+    RuleDOtherSide false "one hold of kind 1 to the other side"
+    RuleEOtherSide false "a lack to the other side"
+    RuleFToCash false "what no rule names to cash"
+    BothHoldsInFull true "one SI to each side is both SIs to each side"
+    Kind2NeedsBothHolds false "kind 2 goes to both sides with two holds only"
+    LackBeforeHolds false "a lack is looked at before the holds"
+    HoldEndsAtClose false "a hold ends with its day"
+    LackEndsAtClose false "a lack ends with its day"
+    // Refusals.
+    HighestNumberFirst false "the highest number that applies comes back"
+    ValuesBeforeFinished false "a bad value comes before a finished book"
+    HoldIdOutOfRange false "a hold's id out of range is 2, not 5"
+    LargePartOutOfRange false "a part over the largest amount is 2, not 8"
+    OneHoldDoesNotStop false "a settle is stopped by two holds only"
+    SettledBeforeIsd true "a settle before the ISD is accepted"
+    AmountOneMore false "10,000,000,001 cents are accepted"
+    Day63NotClosed false "the close of day 63 is refused"
+    SideNotAlwaysGiven false "kinds 3 and 4 do without a side"
+    // Reports.
+    HalfDown false "a half is rounded down"
+    RateIn64Bits false "the product of a rate is cut to 64 bits"
+    AverageOfDurations false "the days' durations are averaged"
+    AbsentDuration0 false "an absent duration is 0"
+    LastDayLeftOut false "a report leaves out its last day"
+    // Lines and files.
+    TwelfthDigit false "a field may have 12 digits"
+    LeadingZero false "a number may begin with 0"
+    UnusedFieldFree false "an unused field may have any number"
+    CarriageReturn false "CR may stand before LF"
+    LastLineWithoutLf false "a last line without LF is a call"
+    EmptyLinesPassedOver false "an empty line is not counted"
+    PlacesFromOne false "places count from 1"
+    FullFileFaulty false "65,536 bytes are too many"
+    OneByteOver false "65,537 bytes are not too many"
+    NamesWithoutLf false "a names line without LF is right"
+}
+
+/// The mistake that is planted, if one is.
+#[derive(Clone, Copy)]
+pub struct Planted(pub Option<Mistake>);
+
+impl Planted {
+    pub const NONE: Planted = Planted(None);
+
+    pub fn has(self, mistake: Mistake) -> bool {
+        self.0 == Some(mistake)
+    }
+
+    /// What is right; or, where the mistake is planted, what stands in its place.
+    pub fn unless<T>(self, mistake: Mistake, wrong: T, right: T) -> T {
+        if self.has(mistake) {
+            wrong
+        } else {
+            right
+        }
+    }
+}

@@ -1,0 +1,9 @@
+//! Document 01 once more, in plain Rust, written from the paper. It has a method of its own: nothing is booked. The accepted
+//! calls are kept with their days, and each figure is recounted from the lives of the pairs when it is asked for.
+
+pub mod book;
+pub mod calls;
+pub mod lines;
+pub mod mistakes;
+pub mod reports;
+pub mod texts;
