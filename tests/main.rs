@@ -19,6 +19,9 @@ use std::process::ExitCode;
 use std::sync::atomic::{AtomicUsize, Ordering};
 use std::sync::Mutex;
 
+/// Mistakes are planted in no more files than these, the first ones of a long run.
+const PLANTED_IN: usize = 450;
+
 /// What the command line asks for.
 struct Asked {
     planted: Planted,
@@ -41,7 +44,7 @@ fn main() -> ExitCode {
     println!("{}", contents(&compared));
     let differing = show_differences(&compared, asked.planted);
     let (planted, missed) = match asked.planted.0 {
-        None => (ALL.len(), plant_all(&compared)),
+        None => (ALL.len(), plant_all(&compared[..compared.len().min(PLANTED_IN)])),
         Some(_) => (1, 0),
     };
     let passed = differing == 0 && missed == 0;

@@ -1,7 +1,6 @@
-//! Files of bookings, by sort: what a depository sends, and orders that no one would.
+//! Bookings of several sorts: what a depository sends, and orders that no one would.
 
 use super::desk::Desk;
-use super::random::Random;
 
 /// Numbers at the ends of the ranges of document 01 and beyond them, by column: id, kind, category, day, side, amount.
 const ENDS: [&[u64]; 6] = [
@@ -16,24 +15,8 @@ const ENDS: [&[u64]; 6] = [
 /// Numbers that are out of most ranges, at the ends of machine numbers, up to the largest of 11 digits.
 const BEYOND: [u64; 8] = [255, 256, 257, 65_537, 4_294_967_295, 4_294_967_296, 10_000_000_000, 99_999_999_999];
 
-pub fn file(sort: u64, random: Random) -> Vec<u8> {
-    let mut desk = Desk::new(random);
-    match sort {
-        0..=2 => months(&mut desk),
-        3 | 4 => crossing_orders(&mut desk),
-        5 => full_book(&mut desk),
-        6 => all_days(&mut desk),
-        7 | 8 => late_pairs(&mut desk),
-        9 | 10 => one_day(&mut desk),
-        11 => ends_of_ranges(&mut desk),
-        12 => spent_ids(&mut desk),
-        _ => large_values(&mut desk),
-    }
-    desk.text.into_bytes()
-}
-
 /// What a depository sends: pairs a few days before they are due, some late, and work on those that are open.
-fn months(desk: &mut Desk) {
+pub fn months(desk: &mut Desk) {
     for _ in 0..desk.random.between(2, 24) {
         for _ in 0..desk.random.between(1, 14) {
             booking(desk);
@@ -61,7 +44,7 @@ pub fn booking(desk: &mut Desk) {
 }
 
 /// Few ids, small numbers, any order: calls cross each other on the same pairs and days.
-fn crossing_orders(desk: &mut Desk) {
+pub fn crossing_orders(desk: &mut Desk) {
     for _ in 0..desk.random.between(10, 250) {
         let random = &mut desk.random;
         let id = (desk.last_id + random.between(0, 3)).saturating_sub(random.between(0, 5));
@@ -86,7 +69,7 @@ fn crossing_orders(desk: &mut Desk) {
 }
 
 /// 1,024 open pairs and more: which calls free a place, and which number comes first where the book is full.
-fn full_book(desk: &mut Desk) {
+pub fn full_book(desk: &mut Desk) {
     let before = desk.random.between(0, 2);
     for _ in 0..before {
         desk.enter(0, 7);
@@ -123,7 +106,7 @@ fn another(desk: &mut Desk) {
 }
 
 /// All 64 days and calls behind the last one, with pairs due on the first and on the last day.
-fn all_days(desk: &mut Desk) {
+pub fn all_days(desk: &mut Desk) {
     desk.enter(63, 1_000);
     for _ in 0..desk.random.between(62, 64) {
         for _ in 0..desk.random.between(0, 3) {
@@ -147,7 +130,7 @@ fn all_days(desk: &mut Desk) {
 }
 
 /// Pairs matched after their ISD, of all kinds and sides, some of them worked on at once.
-fn late_pairs(desk: &mut Desk) {
+pub fn late_pairs(desk: &mut Desk) {
     for _ in 0..desk.random.between(2, 40) {
         for _ in 0..desk.random.between(0, 3) {
             let (isd, amount) = (desk.random.between(0, desk.today + 1).min(63), desk.amount());
@@ -164,7 +147,7 @@ fn late_pairs(desk: &mut Desk) {
 }
 
 /// Few pairs and few days: parts, holds, lacks and cancels on one day, over and over.
-fn one_day(desk: &mut Desk) {
+pub fn one_day(desk: &mut Desk) {
     for _ in 0..desk.random.between(1, 5) {
         for _ in 0..desk.random.between(1, 4) {
             let (isd, amount) = (desk.today.saturating_sub(desk.random.between(0, 1)), desk.random.between(2, 40));
@@ -189,7 +172,7 @@ fn one_day(desk: &mut Desk) {
 }
 
 /// Each call with values at the ends of their ranges and beyond them, up to 11 digits.
-fn ends_of_ranges(desk: &mut Desk) {
+pub fn ends_of_ranges(desk: &mut Desk) {
     for n in 0..desk.random.between(20, 120) {
         let id = 1 + n / 2;
         let random = &mut desk.random;
@@ -221,7 +204,7 @@ fn ends_of_ranges(desk: &mut Desk) {
 }
 
 /// Ids that rise, stand, fall and jump to the last; refused enters whose id is given again.
-fn spent_ids(desk: &mut Desk) {
+pub fn spent_ids(desk: &mut Desk) {
     let mut id: u64 = 0;
     for _ in 0..desk.random.between(8, 60) {
         let random = &mut desk.random;
@@ -246,7 +229,7 @@ fn spent_ids(desk: &mut Desk) {
 }
 
 /// Pairs of the largest amounts, late by up to 63 days, so many that a rate's product passes 64 bits.
-fn large_values(desk: &mut Desk) {
+pub fn large_values(desk: &mut Desk) {
     let days = desk.random.between(61, 63);
     for _ in 0..days {
         desk.close();

@@ -31,7 +31,7 @@ pub fn file(random: &mut Random) -> Vec<u8> {
 /// Usual days up to the last byte that a file may have, or to one about there.
 pub fn full_file(random: &mut Random) -> Vec<u8> {
     let length = FILE_LIMIT - 2 + random.place(5);
-    let mut desk = Desk::new(Random::new(random.between(0, u64::MAX - 1)));
+    let mut desk = Desk::new(Random::new(random.any()));
     let calls_a_day = desk.random.between(20, 90);
     while desk.text.len() < length {
         match desk.random.once_in(calls_a_day) {

@@ -6,21 +6,47 @@ mod desk;
 mod edges;
 mod random;
 
+use bookings::{all_days, crossing_orders, ends_of_ranges, full_book, large_values, late_pairs, months, one_day, spent_ids};
+use desk::Desk;
 use random::Random;
+
+/// Sorts of bookings, some of them twice or more since they are short.
+const BOOKINGS: [fn(&mut Desk); 14] = [
+    months,
+    months,
+    months,
+    crossing_orders,
+    crossing_orders,
+    late_pairs,
+    late_pairs,
+    one_day,
+    one_day,
+    ends_of_ranges,
+    spent_ids,
+    all_days,
+    full_book,
+    large_values,
+];
 
 /// The file of a seed.
 pub fn file(seed: u64) -> Vec<u8> {
     let mut random = Random::new(seed);
-    match seed % 20 {
-        sort @ 14..=17 => {
-            let of = random.pick(&[0, 3, 5, 6, 7, 9, 11, 12]);
-            let whole = bookings::file(of, Random::new(seed + sort));
-            damage::damaged(whole, &mut random)
+    match (seed % 20) as usize {
+        sort @ 0..=13 => booked(BOOKINGS[sort], random),
+        14..=17 => {
+            let bookings = random.pick(&BOOKINGS[..13]);
+            damage::damaged(booked(bookings, Random::new(random.any())), &mut random)
         }
         18 => edges::file(&mut random),
-        19 => edges::full_file(&mut random),
-        sort => bookings::file(sort, random),
+        _ => edges::full_file(&mut random),
     }
+}
+
+/// A file of bookings.
+fn booked(bookings: fn(&mut Desk), random: Random) -> Vec<u8> {
+    let mut desk = Desk::new(random);
+    bookings(&mut desk);
+    desk.text.into_bytes()
 }
 
 /// A run of days to ask a report for, as arguments: mostly of days that may be closed, at times the wrong way round or of no

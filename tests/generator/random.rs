@@ -7,7 +7,8 @@ impl Random {
         Random(seed)
     }
 
-    fn next(&mut self) -> u64 {
+    /// Any number of 64 bits.
+    pub fn any(&mut self) -> u64 {
         self.0 = self.0.wrapping_add(0x9E37_79B9_7F4A_7C15);
         let mixed = (self.0 ^ (self.0 >> 30)).wrapping_mul(0xBF58_476D_1CE4_E5B9);
         let mixed = (mixed ^ (mixed >> 27)).wrapping_mul(0x94D0_49BB_1331_11EB);
@@ -16,12 +17,12 @@ impl Random {
 
     /// A number from low to high, both included.
     pub fn between(&mut self, low: u64, high: u64) -> u64 {
-        low + self.next() % (high - low + 1)
+        low + self.any() % (high - low + 1)
     }
 
     /// True once in so many times.
     pub fn once_in(&mut self, times: u64) -> bool {
-        self.next() % times == 0
+        self.any() % times == 0
     }
 
     pub fn pick<T: Copy>(&mut self, of: &[T]) -> T {
@@ -30,6 +31,6 @@ impl Random {
 
     /// A place below a length.
     pub fn place(&mut self, length: usize) -> usize {
-        (self.next() % length as u64) as usize
+        (self.any() % length as u64) as usize
     }
 }

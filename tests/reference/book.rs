@@ -253,13 +253,12 @@ impl Book {
 
     /// A day from the ISD to the day before the matching: both SIs fail at full value.
     fn late_fail(&self, life: &Life, day: u64) -> Row {
-        let by_side = if life.entry.side == 1 { Sides::Securities } else { Sides::Cash };
         let to = match life.entry.kind {
             _ if self.planted.has(Mistake::LateByRulesAToF) => self.sides(life, day),
             2 if self.planted.has(Mistake::LateKind2OneEach) => Sides::OneEach,
             3 => Sides::Securities,
             4 => Sides::Cash,
-            _ => by_side,
+            _ => one_side(life.entry.side == 1),
         };
         let isd_counted = !self.planted.has(Mistake::LateIsdValueOnMatchingDay) && day == life.entry.isd;
         self.fail(to, life.entry.amount, if isd_counted { life.entry.amount } else { 0 })
@@ -307,27 +306,13 @@ impl Book {
         } else if kind == 4 {
             planted.unless(Mistake::RuleBToSecurities, Securities, Cash)
         } else if planted.has(Mistake::LackBeforeHolds) && standing.lack != 0 {
-            if standing.lack == 1 {
-                Securities
-            } else {
-                Cash
-            }
+            one_side(standing.lack == 1)
         } else if kind == 1 && holds == 2 || kind == 2 && holds >= for_kind_2 {
             planted.unless(Mistake::RuleCToSecurities, Securities, OneEach)
         } else if kind == 1 && holds == 1 {
-            let to_securities = standing.deliverer_holds != planted.has(Mistake::RuleDOtherSide);
-            if to_securities {
-                Securities
-            } else {
-                Cash
-            }
+            one_side(standing.deliverer_holds != planted.has(Mistake::RuleDOtherSide))
         } else if standing.lack != 0 {
-            let to_securities = (standing.lack == 1) != planted.has(Mistake::RuleEOtherSide);
-            if to_securities {
-                Securities
-            } else {
-                Cash
-            }
+            one_side((standing.lack == 1) != planted.has(Mistake::RuleEOtherSide))
         } else {
             planted.unless(Mistake::RuleFToCash, Cash, Securities)
         }
@@ -347,6 +332,15 @@ impl Book {
             rows
         };
         (0..self.today).map(row_of).collect()
+    }
+}
+
+/// Both SIs to securities, or to cash.
+fn one_side(securities: bool) -> Sides {
+    if securities {
+        Sides::Securities
+    } else {
+        Sides::Cash
     }
 }
 
