@@ -12,3 +12,5 @@ pub mod Opened
 pub mod Found
 pub mod Free
 pub mod Closed
+-- any of them, made in a book that the caller keeps
+pub mod InPlace

@@ -1,19 +1,23 @@
--- What a call makes of one place: the contracts of the private functions that the six calls hand a pair and a cell to. The
--- contracts of the calls do not mention them. Assumes nothing.
+-- What a call makes of one place: the contracts of the functions that the six calls hand a pair and a cell to, and of those
+-- that make a call in a book that the caller keeps. The contracts of the calls do not mention them. Assumes nothing.
 use Prim.Native.Nat.{ℕ, suc, _-_}
 use mathlib.Core.Path.{_≡_}
-use mathlib.Core.Bool.{cond}
+use mathlib.Core.Bool.{Bool, true, cond, not}
 use mathlib.Core.List.{List}
+use lib.Dec.{eqb}
 use Rattle.book.specs.Limits.{openLimit}
 use Rattle.book.specs.Sums.{only}
 use Rattle.book.specs.Pairs.{Entry, Terms, Pair, blank, isOpen, terms, entered, withHold, withLack, withPart, ended}
-use Rattle.book.specs.Figures.{Cell, addCell, lateFrom, partPosting, failing, failPosting, post, postAll}
+use Rattle.book.specs.SideOfFail.{sidesWhenLate}
+use Rattle.book.specs.Figures.{Cell, failFigures, addCell, lateFrom, partPosting, failing, failPosting, post, postAll}
 use Rattle.book.specs.Answers.{Call, View, answerNumber, isAccepted, answer}
-use Rattle.book.specs.Calls.{Book, isOpenPair}
+use Rattle.book.specs.Calls.{Book, isOpenPair, lastIdAfter, todayAfter}
 use Rattle.book.specs.declared.changing.Changed.{Changed}
 use Rattle.book.specs.declared.changing.Settled.{Settled}
 use Rattle.book.specs.declared.entering.Entered.{Entered}
 use Rattle.book.specs.declared.closing.Closing.{Closing}
+use Rattle.book.specs.declared.at_place.Sought.{Sought}
+use Rattle.book.specs.declared.at_place.PlaceAfter.{PlaceAfter}
 
 -- ---- hold, lack, settle and cancel, at the place where the search for the open pair of their id ended
 
@@ -23,7 +27,7 @@ atFound today p = record { today = today; highest = 0; count = 0; pair = λ id. 
 
 -- the pair that the place holds after an accepted call
 abbrev pub pairAfter : ℕ → Pair → Call → Pair
-pairAfter today p (Call.Enter e) = p
+pairAfter today p (Call.Enter e) = entered (terms e)
 pairAfter today p (Call.Hold id side on) = withHold side on p
 pairAfter today p (Call.Lack id lack) = withLack lack p
 pairAfter today p (Call.Settle id part) = withPart today part p
@@ -83,3 +87,73 @@ pub record Closes (today : ℕ) (r : Closing) : Type 0 where
 -- the cell of today and the pair's category, with the pair's fail where it fails
 abbrev pub withFail : ℕ → Pair → Cell → Cell
 withFail today p cell = cond (failing today p) (addCell cell (failPosting today p .figures)) cell
+
+-- ---- any call, at the place where the search for what it looks for ended
+
+-- what a call looks for: a free place, or the open pair of its id; for a close any place will do
+abbrev pub soughtBy : Call → Sought
+soughtBy (Call.Enter e) = Sought.FreePlace
+soughtBy (Call.Hold id side on) = Sought.OpenPair id
+soughtBy (Call.Lack id lack) = Sought.OpenPair id
+soughtBy (Call.Settle id part) = Sought.OpenPair id
+soughtBy (Call.Cancel id) = Sought.OpenPair id
+soughtBy Call.Close = Sought.AnyPlace
+
+-- a place that holds p is the one
+abbrev pub isSought : Sought → Pair → Bool
+isSought Sought.FreePlace p = not (isOpen p)
+isSought (Sought.OpenPair id) p = isOpenPair id p
+isSought Sought.AnyPlace p = true
+
+-- what an answer looks at, where that place holds p
+abbrev pub atPlace : ℕ → ℕ → Pair → View
+atPlace today last p = record {
+  today = today;
+  highest = last;
+  count = only (isOpen p) openLimit;
+  pair = λ id. cond (isOpenPair id p) p blank;
+}
+
+-- today's cell of p's category after an accepted call, the fails of a close aside
+abbrev pub cellAfter : ℕ → Pair → Cell → Call → Cell
+cellAfter today p c (Call.Enter e) = c
+cellAfter today p c (Call.Hold id side on) = c
+cellAfter today p c (Call.Lack id lack) = c
+cellAfter today p c (Call.Settle id part) = addCell c (partPosting today part p .figures)
+cellAfter today p c (Call.Cancel id) = c
+cellAfter today p c Call.Close = c
+
+-- the first day that an accepted call counts a late pair's fail on, today where it counts none
+abbrev pub firstLate : ℕ → Call → ℕ
+firstLate today (Call.Enter e) = e .isd
+firstLate today (Call.Hold id side on) = today
+firstLate today (Call.Lack id lack) = today
+firstLate today (Call.Settle id part) = today
+firstLate today (Call.Cancel id) = today
+firstLate today Call.Close = today
+
+-- how many places an accepted call counts the fails of
+abbrev pub placesClosed : Call → ℕ
+placesClosed (Call.Enter e) = 0
+placesClosed (Call.Hold id side on) = 0
+placesClosed (Call.Lack id lack) = 0
+placesClosed (Call.Settle id part) = 0
+placesClosed (Call.Cancel id) = 0
+placesClosed Call.Close = openLimit
+
+-- what is left: the pair, the cell, the highest id accepted, the day, which fails are to be counted, and the number;
+-- refused, all is the same and no fail is to be counted
+pub record Leaves (today last : ℕ) (p : Pair) (c : Cell) (call : Call) (r : PlaceAfter) : Type 0 where
+  pub number : answerNumber (r .answer) ≡ answer (atPlace today last p) call
+  pub pair : r .pair ≡ cond (isAccepted (answer (atPlace today last p) call)) (pairAfter today p call) p
+  pub cell : r .cell ≡ cond (isAccepted (answer (atPlace today last p) call)) (cellAfter today p c call) c
+  pub highest : r .«last_id» ≡ cond (isAccepted (answer (atPlace today last p) call)) (lastIdAfter last call) last
+  pub today-after : r .today ≡ cond (isAccepted (answer (atPlace today last p) call)) (todayAfter today call) today
+  pub late : r .«late_from» ≡ cond (isAccepted (answer (atPlace today last p) call)) (firstLate today call) today
+  pub places : r .places ≡ only (isAccepted (answer (atPlace today last p) call)) (placesClosed call)
+
+-- the cell of a day and the category of a late pair, with the pair's fail on that day
+abbrev pub withLateFail : ℕ → Pair → Cell → Cell
+withLateFail day p cell =
+    addCell cell
+    (failFigures (sidesWhenLate (p .terms .kind) (p .terms .side)) (p .terms .amount) (eqb day (p .terms .isd)))

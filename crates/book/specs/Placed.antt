@@ -1,4 +1,4 @@
--- What the function `place` of src/cells.rt ensures. Assumes nothing.
+-- What the functions `place` of src/cells.rt and `cell_place` of src/at_place.rt ensure. Assumes nothing.
 use Prim.Native.Nat.{ℕ, _<_}
 use mathlib.Core.Path.{_≡_}
 use Rattle.book.specs.Limits.{cellCount}

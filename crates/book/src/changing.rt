@@ -21,16 +21,16 @@ use crate::numbers::wide;
 use crate::pairs::Pair;
 
 // A pair after a call, and what comes back.
-struct Changed {
-    pair: Pair,
-    answer: Answer,
+pub(crate) struct Changed {
+    pub pair: Pair,
+    pub answer: Answer,
 }
 
 // A pair and today's cell of its category after a settle, and what comes back.
-struct Settled {
-    pair: Pair,
-    cell: Cell,
-    answer: Answer,
+pub(crate) struct Settled {
+    pub pair: Pair,
+    pub cell: Cell,
+    pub answer: Answer,
 }
 
 // A hold's side is 1 or 2, and its on/off 0 or 1.
@@ -134,7 +134,7 @@ impl Pair {
     }
 
     // Hold: the hold of a side goes on or off.
-    fn hold(self, today: u64, id: u64, side: u64, on: u64) -> Changed
+    pub(crate) fn hold(self, today: u64, id: u64, side: u64, on: u64) -> Changed
         ensures { λ r. ⌜ Changes today self (Call.Hold id side on) r ⌝ }
     {
         self.if_accepted(
@@ -144,14 +144,14 @@ impl Pair {
     }
 
     // Lack: 0, 1 or 2.
-    fn lack(self, today: u64, id: u64, lack: u64) -> Changed
+    pub(crate) fn lack(self, today: u64, id: u64, lack: u64) -> Changed
         ensures { λ r. ⌜ Changes today self (Call.Lack id lack) r ⌝ }
     {
         self.if_accepted(self.lack_answer(today, id, lack), self.with_lack(lack))
     }
 
     // Cancel ends the pair.
-    fn cancel(self, today: u64, id: u64) -> Changed
+    pub(crate) fn cancel(self, today: u64, id: u64) -> Changed
         ensures { λ r. ⌜ Changes today self (Call.Cancel id) r ⌝ }
     {
         self.if_accepted(self.cancel_answer(today, id), self.ended())
@@ -169,7 +169,7 @@ impl Pair {
     }
 
     // Settle takes a part of the rest, and today gains it.
-    fn settle(self, cell: Cell, today: u64, id: u64, part: u64) -> Settled
+    pub(crate) fn settle(self, cell: Cell, today: u64, id: u64, part: u64) -> Settled
         ensures { λ r. ⌜ Settles today id part self cell r ⌝ }
     {
         let answer = self.settle_answer(today, id, part);

@@ -16,14 +16,14 @@ use crate::pairs::Pair;
 use crate::sides::at_close;
 
 // How many places a close looks at, the day after it, and what comes back.
-struct Closing {
-    places: usize,
-    today: u64,
-    answer: Answer,
+pub(crate) struct Closing {
+    pub places: usize,
+    pub today: u64,
+    pub answer: Answer,
 }
 
 // All places, or none once all days are closed.
-fn close_of(today: u64) -> Closing
+pub(crate) fn close_of(today: u64) -> Closing
     ensures { λ r. ⌜ Closes today r ⌝ }
 {
     if DAYS <= today {
@@ -42,7 +42,7 @@ fn close_of(today: u64) -> Closing
 
 impl Cell {
     // A pair's fail at the close of today, where it fails: the one place where a close works out its side.
-    fn close(self, today: u64, pair: Pair) -> Cell
+    pub fn close(self, today: u64, pair: Pair) -> Cell
         ensures { λ r. ⌜ r ≡ withFail today pair self ⌝ }
     {
         if !pair.is_failing(today) {

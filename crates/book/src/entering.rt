@@ -27,11 +27,11 @@ use crate::sides::when_late;
 
 // What an enter leaves in its place, the highest id accepted, the first day that the pair is late, which is today where
 // it is not, and what comes back.
-struct Entered {
-    pair: Pair,
-    last_id: u64,
-    late_from: u64,
-    answer: Answer,
+pub(crate) struct Entered {
+    pub pair: Pair,
+    pub last_id: u64,
+    pub late_from: u64,
+    pub answer: Answer,
 }
 
 impl Entry {
@@ -92,7 +92,7 @@ impl Entry {
     }
 
     // Enter takes the pair: what the place then holds.
-    fn enter(self, today: u64, last_id: u64, old: Pair) -> Entered
+    pub(crate) fn enter(self, today: u64, last_id: u64, old: Pair) -> Entered
         ensures { λ r. ⌜ Enters today «last_id» old self r ⌝ }
     {
         let answer = self.answer(today, last_id, old);

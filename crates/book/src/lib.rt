@@ -10,4 +10,5 @@ pub mod book; // the book itself: fresh, and any of the six calls
 mod entering; // enter
 mod changing; // hold, lack, settle and cancel
 mod closing; // close
+pub mod at_place; // a call made in a book that the caller keeps
 pub mod rows; // a row, and how it is given

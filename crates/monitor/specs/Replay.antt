@@ -1,7 +1,7 @@
 -- A call file replayed from a fresh book: what comes of each of its lines, the book that they leave, and the counts.
 -- Document 01, 'The calls as text' and 'Numbers given back'. Assumes nothing.
-use Prim.Native.Nat.{ℕ}
-use mathlib.Core.Bool.{Bool, false, cond, not, _||_}
+use Prim.Native.Nat.{ℕ, _+_}
+use mathlib.Core.Bool.{Bool, true, false, cond, not, _||_}
 use mathlib.Core.List.{List, [], _∷_}
 use lib.ListN.{length, drop}
 use lib.Dec.{ltb}
@@ -14,6 +14,7 @@ use Rattle.lines.specs.Reading.{Reading, fields, wrongAt, noLine}
 use Rattle.lines.specs.Names.{namesLine, hasNames}
 use Rattle.lines.specs.Texts.{linesOf}
 pub use Rattle.monitor.specs.declared.replay.ReplayedFile.{ReplayedFile}
+pub use Rattle.monitor.specs.declared.replay.LineCounts.{LineCounts}
 
 -- ---- the file
 
@@ -74,6 +75,11 @@ acceptedIn answers = total (λ x. only (isAcceptedLine x) 1) answers
 -- and how many are refused, wrong ones included
 abbrev pub refusedIn : List Answered → ℕ
 refusedIn answers = total (λ x. only (not (isAcceptedLine x)) 1) answers
+
+-- the counts of the code with one line more, accepted or refused
+abbrev pub withLine : Bool → LineCounts → LineCounts
+withLine true n = record { accepted = n .accepted + 1; refused = n .refused }
+withLine false n = record { accepted = n .accepted; refused = n .refused + 1 }
 
 -- ---- the whole
 

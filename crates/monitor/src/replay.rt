@@ -1,10 +1,13 @@
 // A call file replayed from a fresh book. Document 01, 'The calls as text'.
 ghost use mathlib.Core.Path.{_≡_};
-ghost use Rattle.monitor.specs.Replay.{isFaulty, replayOf, replayedBy};
+ghost use mathlib.Core.Bool.{false};
+ghost use Prim.Native.Nat.{_+_, _<_};
+ghost use Rattle.monitor.specs.Replay.{fileLimit, isFaulty, withLine, replayOf, replayedBy};
 ghost use Rattle.monitor.specs.Demand3.{callsOf, BalancesFor};
 use book::book::Book;
 use book::calls::Answer;
 use book::calls::Refusal;
+use book::limits::LAST_PLACE;
 use lines::names::has_names;
 use lines::reading::Line;
 use lines::reading::next_line;
@@ -25,6 +28,12 @@ pub struct ReplayedFile {
     pub answer: Answer,
 }
 
+// How many lines were accepted, and how many refused.
+struct LineCounts {
+    accepted: u64,
+    refused: u64,
+}
+
 // Names line wrong or over 65,536 bytes.
 pub fn is_faulty(text: &[u8]) -> bool
     ensures { λ r. ⌜ r ≡ isFaulty (now (text .entry)) ⌝ }
@@ -35,45 +44,108 @@ pub fn is_faulty(text: &[u8]) -> bool
     FILE_LIMIT < text.len()
 }
 
-// The lines of a file, each call made on the book that the call before handed back.
-pub fn replay(text: &[u8]) -> ReplayedFile
-    ensures replays { λ r. ⌜ replayedBy r ≡ replayOf (now (text .entry)) ⌝ }
-    ensures balances { λ r. ⌜ BalancesFor (callsOf (now (text .entry))) (r .book) ⌝ }
+impl LineCounts {
+    // One line more.
+    fn with_line(self, is_accepted: bool) -> LineCounts
+        requires { ⌜ self .accepted + self .refused < fileLimit ⌝ }
+        ensures { λ r. ⌜ r ≡ withLine «is_accepted» self ⌝ }
+    {
+        if is_accepted {
+            return LineCounts {
+                accepted: self.accepted + 1,
+                refused: self.refused,
+            };
+        }
+        LineCounts {
+            accepted: self.accepted,
+            refused: self.refused + 1,
+        }
+    }
+}
+
+// The lines of a file that is not faulty, each call made on the book that the call before left. The loop makes it in its own
+// book, element by element, since a function that took the book would cost a copy of it: it looks for the call's place and
+// stores what the call leaves there; then each late day, and at a close each place, adds its fail.
+fn replay_lines(text: &[u8]) -> ReplayedFile
+    requires { ⌜ isFaulty (now text) ≡ false ⌝ }
+    ensures { λ r. ⌜ replayedBy r ≡ replayOf (now (text .entry)) ⌝ }
 {
     let mut book = Book::fresh();
-    let mut accepted: u64 = 0;
-    let mut refused: u64 = 0;
-    if is_faulty(text) {
-        return ReplayedFile {
-            book: book,
-            accepted: 0,
-            refused: 0,
-            answer: Answer::Refused(Refusal::FaultyFile),
-        };
-    }
+    let mut counts = LineCounts {
+        accepted: 0,
+        refused: 0,
+    };
     let mut at = next_line(text, 0);
     while at < text.len() {
         let line = read_line(text, at);
         at = next_line(text, at);
         match line {
             Line::Correct(call) => {
-                let outcome = book.apply(call);
-                let answer = outcome.answer;
-                book = outcome.book;
-                if answer.is_accepted() {
-                    accepted += 1;
-                } else {
-                    refused += 1;
+                let today = book.today;
+                let sought = call.sought();
+                let mut i: usize = 0;
+                while i < LAST_PLACE {
+                    let pair = book.pairs[i];
+                    if sought.is_at(pair) {
+                        break;
+                    }
+                    i += 1;
                 }
+                let pair = book.pairs[i];
+                let cell_at = pair.cell_place(today);
+                let cell = book.cells[cell_at];
+                let left = call.at_place(today, book.last_id, pair, cell);
+                let next = left.pair;
+                let next_cell = left.cell;
+                let answer = left.answer;
+                book.pairs[i] = next;
+                book.cells[cell_at] = next_cell;
+                book.last_id = left.last_id;
+                let mut day = left.late_from;
+                while day < today {
+                    let late_at = next.cell_place(day);
+                    let late_cell = book.cells[late_at];
+                    let with_late = late_cell.add_late(day, next);
+                    book.cells[late_at] = with_late;
+                    day += 1;
+                }
+                let places = left.places;
+                let mut n: usize = 0;
+                while n < places {
+                    let pair = book.pairs[n];
+                    let fail_at = pair.cell_place(today);
+                    let fail_cell = book.cells[fail_at];
+                    let with_fail = fail_cell.close(today, pair);
+                    book.cells[fail_at] = with_fail;
+                    n += 1;
+                }
+                book.today = left.today;
+                counts = counts.with_line(answer.is_accepted());
             }
-            Line::Wrong(_) => refused += 1,
-            Line::NoLine => refused += 1,
+            Line::Wrong(_) => counts = counts.with_line(false),
+            Line::NoLine => counts = counts.with_line(false),
         }
     }
     ReplayedFile {
         book: book,
-        accepted: accepted,
-        refused: refused,
+        accepted: counts.accepted,
+        refused: counts.refused,
         answer: Answer::Accepted,
     }
+}
+
+// The lines of a file, each call made on the book that the call before handed back.
+pub fn replay(text: &[u8]) -> ReplayedFile
+    ensures replays { λ r. ⌜ replayedBy r ≡ replayOf (now (text .entry)) ⌝ }
+    ensures balances { λ r. ⌜ BalancesFor (callsOf (now (text .entry))) (r .book) ⌝ }
+{
+    if is_faulty(text) {
+        return ReplayedFile {
+            book: Book::fresh(),
+            accepted: 0,
+            refused: 0,
+            answer: Answer::Refused(Refusal::FaultyFile),
+        };
+    }
+    replay_lines(text)
 }

@@ -79,7 +79,7 @@ pub places-bound : (today : ℕ) (r : Closing) → Closes today r → r .places 
 places-bound today r k = rw (k .places) (only-le (isAccepted (answer (onDay today) Call.Close)) openLimit)
 
 -- after the last place none is left
-fails-end : (today n i : ℕ) (ps : List Pair) (cells : List Cell) → n ≤ i → failsPosted today (placesFrom n i ps) cells ≡ cells
+pub fails-end : (today n i : ℕ) (ps : List Pair) (cells : List Cell) → n ≤ i → failsPosted today (placesFrom n i ps) cells ≡ cells
 unfolding failPostings
 fails-end today n i ps cells h =
     let none-left : n - i ≡ 0 = omega arith in

@@ -13,7 +13,7 @@ use borrow.Author.Tests.{le-leb, lt-leb}
 use Rattle.book.specs.Limits.{dayLimit, openLimit}
 use Rattle.book.specs.Sums.{only}
 use Rattle.book.specs.SideOfFail.{Sides, sidesWhenLate}
-use Rattle.book.specs.Pairs.{Entry, Terms, Pair, kindOf, sideOf, inRange, blank, isOpen, terms, entered}
+use Rattle.book.specs.Pairs.{Entry, Terms, Pair, inRange, blank, isOpen, terms, entered}
 use Rattle.book.specs.Figures.{Cell, none, failFigures, lateFrom, latePostings, place, addCell, post, postAll}
 use Rattle.book.specs.Answers.{Call, refused, answer, isAccepted}
 use Rattle.book.specs.Calls.{Book, places, openCount, viewOf, answerOf, postings, pairsAfter, afterAccepted}
@@ -97,17 +97,17 @@ entered-accepted b e i d h =
 -- ---- the late days
 
 -- one turn of the loop
-pub late-on : (today day : ℕ) (e : Entry) (cells : List Cell) (to : Sides) (at : ℕ) (cell : Cell) → day < today
-    → to ≡ sidesWhenLate (kindOf (e .kind)) (sideOf (e .side))
+pub late-on : (today day : ℕ) (e : Terms) (cells : List Cell) (to : Sides) (at : ℕ) (cell : Cell) → day < today
+    → to ≡ sidesWhenLate (e .kind) (e .side)
     → at ≡ place day (e .category)
     → cell ≡ addCell (getD cells at none) (failFigures to (e .amount) (eqb day (e .isd)))
-    → lateCells today (day + 1) (terms e) (set cells at cell) ≡ lateCells today day (terms e) cells
+    → lateCells today (day + 1) e (set cells at cell) ≡ lateCells today day e cells
 unfolding lateFrom post
 late-on today day e cells to at cell h sides placed made =
     let left : today - day ≡ suc (today - suc day) = omega arith in
     let next : day + 1 ≡ suc day = omega arith in
     rw (made, placed, sides, next)
-    (ap (λ (n : ℕ). postAll post (lateFrom n day (terms e)) cells) (sym left))
+    (ap (λ (n : ℕ). postAll post (lateFrom n day e) cells) (sym left))
 
 -- today no late day is left
 pub late-end : (today day : ℕ) (e : Terms) (cells : List Cell) → today ≤ day → lateCells today day e cells ≡ cells

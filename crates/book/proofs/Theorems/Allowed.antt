@@ -133,3 +133,12 @@ allowed v (Call.Cancel id) h =
     let b = not-refused (notOpen v id) 4 _ (a .1) in
     record { running = omega (arith, tests); isOpen = not-false (isOpen (v .pair id)) (b .0) }
 allowed v Call.Close h = let a = not-refused (isFinished v) 0 _ h in omega (arith, tests)
+
+-- so it is made on one of the 64 days
+pub accepted-running : (v : View) (call : Call) → answer v call ≡ 0 → v .today < dayLimit
+accepted-running v (Call.Enter e) h = allowed v (Call.Enter e) h .running
+accepted-running v (Call.Hold id side on) h = allowed v (Call.Hold id side on) h .running
+accepted-running v (Call.Lack id lack) h = allowed v (Call.Lack id lack) h .running
+accepted-running v (Call.Settle id part) h = allowed v (Call.Settle id part) h .running
+accepted-running v (Call.Cancel id) h = allowed v (Call.Cancel id) h .running
+accepted-running v Call.Close h = allowed v Call.Close h

@@ -1,7 +1,6 @@
 -- What the loops over a file's lines do: from the present book and place on, the lines that are left lead to what the whole
 -- file leads to. Assumes nothing.
 use Prim.Native.Nat.{ℕ, _+_, _≤_, _<_}
-use native.Mathlib.Nat.{add-zero}
 use native.Mathlib.Omega.{arith}
 use mathlib.Core.Path.{_≡_, sym, ap, _∙_, subst⁻¹}
 use mathlib.Core.Bool.{Bool, true, false, not}
@@ -19,9 +18,10 @@ use Rattle.lines.specs.Reading.{Reading, readBy, asRead, lineAt, nextAt}
 use Rattle.lines.specs.Texts.{linesOf}
 use Rattle.lines.proofs.Theorems.Table.{call-of-fields}
 use Rattle.lines.proofs.Theorems.Texts.{lines-from}
-use Rattle.monitor.proofs.Theorems.Files.{lines-behind, names-within}
+use Rattle.monitor.proofs.Theorems.Files.{lines-behind, names-within, file-most}
 use Rattle.monitor.proofs.Theorems.Replayed.{one-of, file-balances}
 use Rattle.monitor.specs.Replay.{
+  fileLimit,
   isFaulty,
   callLines,
   numbered,
@@ -32,6 +32,8 @@ use Rattle.monitor.specs.Replay.{
   isAcceptedLine,
   acceptedIn,
   refusedIn,
+  LineCounts,
+  withLine,
   answersOf,
   ReplayedFile,
   replayOf,
@@ -77,19 +79,25 @@ module _ (b : Book) (call : Call) (r : Outcome) (applied : Applied b call r) whe
   pub made-book : r .book ≡ afterLine b (asRead call)
   made-book = ap (λ h. h .book) applied ∙ sym (ap (after b) (call-of-fields call))
 
--- ---- the loop of `replay`
+-- ---- the loop of `replay_lines`
 
--- `taken` lines were accepted and `turned` ones turned away; the lines from `at` on, made from this book and these counts on,
--- lead to the book and the counts of the file.
-pub record ReplaysFrom (s : List ℕ) (b : Book) (taken turned at : ℕ) : Type 0 where
-  pub few : taken + turned ≤ at
+-- The lines from `at` on, made from this book and these counts on, lead to the book and the counts of the file.
+pub record ReplaysFrom (s : List ℕ) (b : Book) (n : LineCounts) (at : ℕ) : Type 0 where
+  pub few : n .accepted + n .refused ≤ at
   pub inside : at ≤ length s
   pub book : afterLines b (leftFrom s at) ≡ replayOf s .book
-  pub accepted : taken + acceptedIn (answersFrom b (leftFrom s at)) ≡ replayOf s .accepted
-  pub refused : turned + refusedIn (answersFrom b (leftFrom s at)) ≡ replayOf s .refused
+  pub accepted : n .accepted + acceptedIn (answersFrom b (leftFrom s at)) ≡ replayOf s .accepted
+  pub refused : n .refused + refusedIn (answersFrom b (leftFrom s at)) ≡ replayOf s .refused
+
+-- A line is counted once, as accepted or as refused.
+with-line : (t : Bool) (n : LineCounts)
+    → (withLine t n .accepted ≡ n .accepted + only t 1) × (withLine t n .refused ≡ n .refused + only (not t) 1)
+with-line true n = (omega arith, omega arith)
+with-line false n = (omega arith, omega arith)
 
 -- Behind the names line nothing is counted yet.
-pub replay-start : (s : List ℕ) → isFaulty s ≡ false → ReplaysFrom s freshBook 0 0 (nextAt s 0)
+pub replay-start : (s : List ℕ) → isFaulty s ≡ false
+    → ReplaysFrom s freshBook (record { accepted = 0; refused = 0 }) (nextAt s 0)
 unfolding replayOf answersOf
 replay-start s sound = record {
   few = omega arith;
@@ -99,14 +107,18 @@ replay-start s sound = record {
   refused = rw (← lines-behind s sound) (omega arith);
 }
 
-module _ (s : List ℕ) (b : Book) (taken turned at : ℕ) (more : at < length s) (so : ReplaysFrom s b taken turned at) where
+module _ (s : List ℕ) (b : Book) (n : LineCounts) (at : ℕ) (more : at < length s) (so : ReplaysFrom s b n at) where
+  -- One line more can be counted.
+  pub replay-room : isFaulty s ≡ false → n .accepted + n .refused < fileLimit
+  replay-room sound = omega (arith, so .few, so .inside, file-most s sound)
+
   -- A line is accepted or refused, and the next is read.
   replay-next : (l : Reading) → lineAt s at ≡ l
-      → let t = isAcceptedLine (answerTo b l) in
-      ReplaysFrom s (afterLine b l) (taken + only t 1) (turned + only (not t) 1) (nextAt s at)
+      → ReplaysFrom s (afterLine b l) (withLine (isAcceptedLine (answerTo b l)) n) (nextAt s at)
   replay-next l here =
       let answers = answers-next s at b l here more in
       let one = one-of (isAcceptedLine (answerTo b l)) in
+      let counted = with-line (isAcceptedLine (answerTo b l)) n in
       let further = lines-from s at .above more in
       record {
         few = omega (arith, so .few);
@@ -116,26 +128,25 @@ module _ (s : List ℕ) (b : Book) (taken turned at : ℕ) (more : at < length s
         refused = omega (arith, so .refused, ap refusedIn answers);
       }
 
-  -- an accepted line
-  pub replay-accepted : (l : Reading) (next : Book) (to : ℕ) → lineAt s at ≡ l → isAcceptedLine (answerTo b l) ≡ true
-      → next ≡ afterLine b l → to ≡ nextAt s at → ReplaysFrom s next (taken + 1) turned to
-  replay-accepted l next to here passed same further = rw (same, further) (rw (passed, add-zero turned) at (replay-next l here))
-
-  -- a refused one
-  pub replay-refused : (l : Reading) (next : Book) (to : ℕ) → lineAt s at ≡ l → isAcceptedLine (answerTo b l) ≡ false
-      → next ≡ afterLine b l → to ≡ nextAt s at → ReplaysFrom s next taken (turned + 1) to
-  replay-refused l next to here failed same further = rw (same, further) (rw (failed, add-zero taken) at (replay-next l here))
+  -- So the loop goes on behind a line with the book that the line leaves, and with the line counted.
+  pub replay-line : (l : Reading) (t : Bool) (next : Book) (counts : LineCounts) (to : ℕ) → lineAt s at ≡ l
+      → isAcceptedLine (answerTo b l) ≡ t → next ≡ afterLine b l → counts ≡ withLine t n → to ≡ nextAt s at
+      → ReplaysFrom s next counts to
+  replay-line l t next counts to here passed same counted further =
+      rw (same, counted, further, ← passed) (replay-next l here)
 
 -- With no line left the book and the counts are those of the file.
-pub replay-end : (s : List ℕ) (b : Book) (taken turned at : ℕ) → isFaulty s ≡ false → length s ≤ at
-    → ReplaysFrom s b taken turned at
-    → record { number = 0; book = b; accepted = taken; refused = turned } ≡ replayOf s
+pub replay-end : (s : List ℕ) (b : Book) (n : LineCounts) (at : ℕ) → isFaulty s ≡ false → length s ≤ at
+    → ReplaysFrom s b n at
+    → record { number = 0; book = b; accepted = n .accepted; refused = n .refused } ≡ replayOf s
 unfolding replayOf afterLines answersFrom
-replay-end s b taken turned at sound end so =
+replay-end s b n at sound end so =
     let none : leftFrom s at ≡ [] = lines-from s at .none end in
     let book : b ≡ replayOf s .book = rw none at (so .book) in
-    let accepted : taken ≡ replayOf s .accepted = omega (arith, so .accepted, ap (λ ls. acceptedIn (answersFrom b ls)) none) in
-    let refused : turned ≡ replayOf s .refused = omega (arith, so .refused, ap (λ ls. refusedIn (answersFrom b ls)) none) in
+    let accepted : n .accepted ≡ replayOf s .accepted =
+    omega (arith, so .accepted, ap (λ ls. acceptedIn (answersFrom b ls)) none) in
+    let refused : n .refused ≡ replayOf s .refused =
+    omega (arith, so .refused, ap (λ ls. refusedIn (answersFrom b ls)) none) in
     rw (sound, ← book, ← accepted, ← refused)
 
 -- A faulty file is refused by 10, and none of its lines is read.

@@ -34,7 +34,7 @@ loop-again c =
       now .inv .0,
       now .inv .1,
       now .inv .2,
-      late-on (start .args .t1 .today) (now .day) (start .args .entry) (now .self .cells) _ _ _ (omega arith)
+      late-on (start .args .t1 .today) (now .day) (terms (start .args .entry)) (now .self .cells) _ _ _ (omega arith)
           (sides .when-late .ensures ∙ ap₂ sidesWhenLate (sides .before .before .of .ensures) (sides .before .of2 .ensures))
           (at .place .ensures .value) (c .add-fail .ensures)
           ∙ now .inv .3,
