@@ -117,18 +117,24 @@ fn first_lines(file: &[u8], lines: usize) -> &[u8] {
 
 // ---- measures
 
-// Microseconds for each call: the best of nine runs, without the time that it takes to set up.
-fn timed(calls_each: u64, times: u64, run: impl Fn(u64) -> u64) -> f64 {
-    let best = |times: u64| {
-        (0..9)
-            .map(|_| {
-                let start = Instant::now();
-                black_box(run(black_box(times)));
-                start.elapsed().as_secs_f64()
-            })
-            .fold(f64::INFINITY, f64::min)
-    };
-    (best(times) - best(0)) * 1e6 / (times * calls_each) as f64
+// Seconds that a run takes.
+fn seconds(run: &impl Fn(u64) -> u64, times: u64) -> f64 {
+    let start = Instant::now();
+    black_box(run(black_box(times)));
+    start.elapsed().as_secs_f64()
+}
+
+// Microseconds for each call of both sides: the best of nine runs of each, taken in turns, without the time to set up.
+fn timed(calls_each: u64, times: u64, proved: &impl Fn(u64) -> u64, rust: &impl Fn(u64) -> u64) -> (f64, f64) {
+    let mut best = [f64::INFINITY; 4];
+    for _ in 0..9 {
+        let runs = [seconds(proved, times), seconds(proved, 0), seconds(rust, times), seconds(rust, 0)];
+        for (best, run) in best.iter_mut().zip(runs) {
+            *best = best.min(run);
+        }
+    }
+    let each = |whole: f64, set_up: f64| (whole - set_up) * 1e6 / (times * calls_each) as f64;
+    (each(best[0], best[1]), each(best[2], best[3]))
 }
 
 // Kilobytes of stack that a call uses: the stack below is painted, and what the call left of the paint is counted.
@@ -136,9 +142,8 @@ fn stack_of(run: impl Fn(u64) -> u64 + Sync) -> usize {
     const PAINTED: usize = 8 << 20;
     const PAINT: u8 = 0xA5;
     let used = || {
-        let top = std::ptr::addr_of!(run) as usize;
         let here = 0u8;
-        let top = top.min(std::ptr::addr_of!(here) as usize) - 512;
+        let top = std::ptr::addr_of!(here) as usize - 512;
         let low = top - PAINTED;
         for at in low..top {
             unsafe { std::ptr::write_volatile(at as *mut u8, PAINT) };
@@ -156,8 +161,7 @@ fn stack_of(run: impl Fn(u64) -> u64 + Sync) -> usize {
 // A line of figures: both times, their ratio, and the stack of the proved side.
 fn print_line(name: &str, calls_each: u64, times: u64, proved: impl Fn(u64) -> u64 + Sync, rust: impl Fn(u64) -> u64) {
     assert_eq!(proved(times), rust(times), "{name}: both give the same");
-    let a = timed(calls_each, times, &proved);
-    let b = timed(calls_each, times, rust);
+    let (a, b) = timed(calls_each, times, &proved, &rust);
     println!("{name:<38}{a:>9.2} µs{b:>9.2} µs{:>8.2}{:>8} KB", a / b, stack_of(&proved));
 }
 

@@ -3,15 +3,15 @@
 
 use crate::reference::calls::{Call, Entry};
 
-/// A number of SIs and a value in cents.
-pub type Both = [u64; 2];
+/// A number of SIs, and a value in cents.
+pub type Measures = [u64; 2];
 
-/// What the balance needs of a row: settled, securities fails and cash fails.
+/// What the balance needs of a row.
 #[derive(Clone, Copy, Default)]
-pub struct Given {
-    pub settled: Both,
-    pub securities: Both,
-    pub cash: Both,
+pub struct RowFigures {
+    pub settled: Measures,
+    pub securities: Measures,
+    pub cash: Measures,
 }
 
 /// An accepted call with the day that it falls on: the count of accepted closes before it.
@@ -22,39 +22,41 @@ struct Accepted {
 
 /// What the calls give for a day and category.
 #[derive(Clone, Copy, Default)]
-struct Read {
-    newly_due: Both,
-    cancelled: Both,
+struct Readings {
+    newly_due: Measures,
+    cancelled: Measures,
     part_settled: u64,
 }
 
-/// The rows that an accepted close left, by category 0 to 9, against the calls, each with whether it was accepted. The first
-/// day and category that do not balance, if any.
-pub fn unbalanced(calls: &[(Call, bool)], rows: &[[Given; 10]]) -> Option<String> {
+/// The rows of the closed days, by category 0 to 9, against the calls, each with whether it was accepted: the first day and
+/// category that do not balance, if any.
+pub fn unbalanced(calls: &[(Call, bool)], rows: &[[RowFigures; 10]]) -> Option<String> {
     let accepted = accepted_of(calls);
     let closed = accepted.iter().filter(|made| matches!(made.call, Call::Close)).count();
     if closed != rows.len() {
         return Some(format!("{closed} closed days by the calls, {} rows", rows.len()));
     }
-    let read = readings(&accepted, closed);
-    let nothing = [Given::default(); 10];
-    (0..closed).find_map(|day| {
-        let before = if day == 0 { &nothing } else { &rows[day - 1] };
-        (0..10).find_map(|category| {
-            let both_sides =
-                [0, 1].map(|measure| sides(&rows[day][category], &before[category], &read[day][category], measure));
-            let holds = both_sides.iter().all(|(left, right)| left == right);
-            (!holds).then(|| format!("day {day}, category {category}: {both_sides:?} in number and in cents"))
+    let readings = readings_of(&accepted, closed);
+    let no_rows = [RowFigures::default(); 10];
+    let days_and_categories = (0..closed).flat_map(|day| (0..10).map(move |category| (day, category)));
+    days_and_categories
+        .filter_map(|(day, category)| {
+            let before = if day == 0 { &no_rows } else { &rows[day - 1] };
+            let equation = |measure| equation(&rows[day][category], &before[category], &readings[day][category], measure);
+            let (number, value) = (equation(0), equation(1));
+            let balances = number.0 == number.1 && value.0 == value.1;
+            (!balances).then(|| format!("day {day}, category {category}: {number:?} in number, {value:?} in cents"))
         })
-    })
+        .next()
 }
 
-/// Settled + securities fails + cash fails + cancelled; previous day's fails + newly due, and part-settled in number.
-fn sides(row: &Given, before: &Given, read: &Read, measure: usize) -> (u64, u64) {
-    let part_settled = if measure == 0 { read.part_settled } else { 0 };
+/// Both sides: settled + securities fails + cash fails + cancelled, and previous day's fails + newly due, with the part-settled
+/// pairs in number.
+fn equation(row: &RowFigures, before: &RowFigures, readings: &Readings, measure: usize) -> (u64, u64) {
+    let part_settled = if measure == 0 { readings.part_settled } else { 0 };
     (
-        row.settled[measure] + row.securities[measure] + row.cash[measure] + read.cancelled[measure],
-        before.securities[measure] + before.cash[measure] + read.newly_due[measure] + part_settled,
+        row.settled[measure] + row.securities[measure] + row.cash[measure] + readings.cancelled[measure],
+        before.securities[measure] + before.cash[measure] + readings.newly_due[measure] + part_settled,
     )
 }
 
@@ -69,13 +71,13 @@ fn accepted_of(calls: &[(Call, bool)]) -> Vec<Accepted> {
 }
 
 /// The readings of each closed day, by category.
-fn readings(accepted: &[Accepted], closed: usize) -> Vec<[Read; 10]> {
-    let mut read = vec![[Read::default(); 10]; closed];
+fn readings_of(accepted: &[Accepted], closed: usize) -> Vec<[Readings; 10]> {
+    let mut sums = vec![[Readings::default(); 10]; closed];
     for made in accepted {
         let Call::Enter(entry) = made.call else { continue };
         let own: Vec<&Accepted> = accepted.iter().filter(|other| other.call.id() == Some(entry.id)).collect();
-        for (day, by_category) in (0..).zip(&mut read) {
-            let pair = read_pair(&entry, &own, day);
+        for (day, by_category) in (0..).zip(&mut sums) {
+            let pair = readings_of_pair(&entry, &own, day);
             for category in [0, entry.category as usize] {
                 let sum = &mut by_category[category];
                 for measure in [0, 1] {
@@ -86,26 +88,27 @@ fn readings(accepted: &[Accepted], closed: usize) -> Vec<[Read; 10]> {
             }
         }
     }
-    read
+    sums
 }
 
 /// What one pair gives on a day, from the accepted calls of its id in their order.
-fn read_pair(entry: &Entry, own: &[&Accepted], day: u64) -> Read {
-    let cancel = own.iter().position(|made| matches!(made.call, Call::Cancel { .. }));
-    let cancel_day = cancel.map(|at| own[at].day);
-    let settles_today = own.iter().any(|made| made.day == day && matches!(made.call, Call::Settle { .. }));
+fn readings_of_pair(entry: &Entry, own: &[&Accepted], day: u64) -> Readings {
+    let is_cancel = |made: &Accepted| matches!(made.call, Call::Cancel { .. });
+    let cancelled_before = own.iter().any(|made| is_cancel(made) && made.day < day);
+    let cancel = own.iter().position(|made| is_cancel(made) && made.day == day);
+    let settles = own.iter().any(|made| made.day == day && matches!(made.call, Call::Settle { .. }));
     let until_close = own.iter().take_while(|made| made.day <= day).count();
-    let mut read = Read::default();
-    if entry.isd == day && cancel_day.is_none_or(|on| on >= day) {
-        read.newly_due = [2, 2 * entry.amount];
+    let mut readings = Readings::default();
+    if entry.isd == day && !cancelled_before {
+        readings.newly_due = [2, 2 * entry.amount];
     }
-    if entry.isd <= day && cancel_day == Some(day) {
-        read.cancelled = [2, 2 * rest(entry, &own[..cancel.unwrap_or(0)])];
+    if let Some(at) = cancel.filter(|_| entry.isd <= day) {
+        readings.cancelled = [2, 2 * rest(entry, &own[..at])];
     }
-    if settles_today && rest(entry, &own[..until_close]) > 0 {
-        read.part_settled = 2;
+    if settles && rest(entry, &own[..until_close]) > 0 {
+        readings.part_settled = 2;
     }
-    read
+    readings
 }
 
 /// The amount less the parts of these settles.

@@ -1,12 +1,15 @@
 //! A file through the proved programs and the reference: the texts of both, and the balance.
 
-use crate::balance::{unbalanced, Given};
+use crate::balance::{unbalanced, RowFigures};
 use crate::programs::Text;
 use crate::reference::book::{Figure, Row};
 use crate::reference::calls::Call;
 use crate::reference::lines::{lines_of, Line};
 use crate::reference::mistakes::Planted;
 use crate::reference::texts::{replay, Answered, Replayed};
+
+/// Of a file up to so many bytes each beginning is tried, for the smallest one.
+const TRIED_BY_BYTES: usize = 4096;
 
 /// A file to compare: its name, its bytes, and a run of days to ask reports for.
 pub struct Sample {
@@ -83,7 +86,11 @@ fn balance_of_programs(file: &[u8], written: &[(Text, Vec<u8>)]) -> Option<Strin
             Text::Table | Text::Reports | Text::ReportsOver(_) => {}
         }
     }
-    unbalanced(&calls_with(file, accepted), &rows)
+    let lines = lines_of(file, Planted::NONE);
+    if lines.len() != accepted.len() {
+        return Some(format!("{} lines, {} answers", lines.len(), accepted.len()));
+    }
+    unbalanced(&calls_with(lines, accepted), &rows)
 }
 
 /// Whether each line of a file was accepted, by the answers.
@@ -92,26 +99,26 @@ fn accepted_lines(answers: &[u8]) -> Vec<bool> {
     answers.lines().skip(1).map(|line| line.split(',').nth(1) == Some("0")).collect()
 }
 
-/// The calls of a file, each with whether its line was accepted.
-fn calls_with(file: &[u8], accepted: Vec<bool>) -> Vec<(Call, bool)> {
+/// The calls of some lines, each with whether its line was accepted.
+fn calls_with(lines: Vec<Line>, accepted: Vec<bool>) -> Vec<(Call, bool)> {
     let call_of = |(line, accepted)| match line {
         Line::Correct(call) => Some((call, accepted)),
         Line::Wrong(_) => None,
     };
-    lines_of(file, Planted::NONE).into_iter().zip(accepted).filter_map(call_of).collect()
+    lines.into_iter().zip(accepted).filter_map(call_of).collect()
 }
 
 /// The rows of a day, by category, in the reports of that day alone.
-fn rows_in(reports: &[u8]) -> Option<[Given; 10]> {
-    let rows: Option<Vec<Given>> = String::from_utf8_lossy(reports).lines().skip(1).map(row_in).collect();
+fn rows_in(reports: &[u8]) -> Option<[RowFigures; 10]> {
+    let rows: Option<Vec<RowFigures>> = String::from_utf8_lossy(reports).lines().skip(1).map(row_in).collect();
     rows?.try_into().ok()
 }
 
 /// The row that a report of one day has in its line.
-fn row_in(line: &str) -> Option<Given> {
+fn row_in(line: &str) -> Option<RowFigures> {
     let numbers: Vec<u64> = line.split(',').take(12).map(|field| field.parse().ok()).collect::<Option<_>>()?;
     let [_, _, _, _, settled_n, sec_n, cash_n, _, settled_v, sec_v, cash_v, _] = numbers[..] else { return None };
-    Some(Given { settled: [settled_n, settled_v], securities: [sec_n, sec_v], cash: [cash_n, cash_v] })
+    Some(RowFigures { settled: [settled_n, settled_v], securities: [sec_n, sec_v], cash: [cash_n, cash_v] })
 }
 
 /// Demand 3 of the reference, by its own answers and rows.
@@ -122,8 +129,8 @@ pub fn balance_of_reference(replayed: &Replayed) -> Option<String> {
     };
     let calls: Vec<(Call, bool)> = replayed.lines.iter().filter_map(made).collect();
     let both = |figure: Figure| [figure.number, figure.value];
-    let given = |row: Row| Given { settled: both(row.settled), securities: both(row.securities), cash: both(row.cash) };
-    let rows: Vec<[Given; 10]> = replayed.rows.iter().map(|rows| rows.map(given)).collect();
+    let given = |row: Row| RowFigures { settled: both(row.settled), securities: both(row.securities), cash: both(row.cash) };
+    let rows: Vec<[RowFigures; 10]> = replayed.rows.iter().map(|rows| rows.map(given)).collect();
     unbalanced(&calls, &rows)
 }
 
@@ -137,16 +144,28 @@ impl Compared {
 }
 
 impl Difference {
-    /// The smallest beginning of a file that still shows the difference.
+    /// The smallest beginning of a file that still shows the difference. Of a long file first the fewest lines are looked for,
+    /// and then the fewest bytes of the last of them.
     pub fn smallest_prefix<'a>(&self, sample: &'a Sample, planted: Planted) -> &'a [u8] {
-        let shows = |file: &[u8]| match self {
+        let file = &sample.file;
+        let shows = |length: &usize| self.shows(&file[..*length], &sample.run, planted);
+        if file.len() <= TRIED_BY_BYTES {
+            return &file[..(0..file.len()).find(shows).unwrap_or(file.len())];
+        }
+        let ends = (0..file.len()).filter(|&at| file[at] == b'\n').map(|at| at + 1);
+        let end = ends.clone().find(shows).unwrap_or(file.len());
+        let start = ends.take_while(|&other| other < end).last().unwrap_or(0);
+        &file[..(start + 1..end).find(shows).unwrap_or(end)]
+    }
+
+    /// Whether a file shows it.
+    fn shows(&self, file: &[u8], run: &[String; 2], planted: Planted) -> bool {
+        match self {
             Difference::Texts(text, _) => text.by_program(file) != text.by_reference(replay(file, planted).as_ref()),
             Difference::Balance(_) => {
-                let prefix = Sample { name: sample.name.clone(), file: file.to_vec(), run: sample.run.clone() };
+                let prefix = Sample { name: String::new(), file: file.to_vec(), run: run.clone() };
                 matches!(compare(prefix, planted).difference, Some(Difference::Balance(_)))
             }
-        };
-        let length = (0..sample.file.len()).find(|&n| shows(&sample.file[..n]));
-        &sample.file[..length.unwrap_or(sample.file.len())]
+        }
     }
 }

@@ -19,8 +19,12 @@ use std::process::ExitCode;
 use std::sync::atomic::{AtomicUsize, Ordering};
 use std::sync::Mutex;
 
+/// As many files as a run makes from seeds where nothing is said; from so many on mistakes are planted.
+const SAMPLE: u64 = 400;
 /// Mistakes are planted in no more files than these, the first ones of a long run.
 const PLANTED_IN: usize = 450;
+/// The smallest prefix is shown of so many files that differ, the shortest ones.
+const SHOWN: usize = 3;
 
 /// What the command line asks for.
 struct Asked {
@@ -43,16 +47,16 @@ fn main() -> ExitCode {
     let compared = in_parallel(samples, |sample| compare(sample, asked.planted));
     println!("{}", contents(&compared));
     let differing = show_differences(&compared, asked.planted);
-    let (planted, missed) = match asked.planted.0 {
-        None => (ALL.len(), plant_all(&compared[..compared.len().min(PLANTED_IN)])),
-        Some(_) => (1, 0),
+    let (verdict, passed) = match asked.planted.0 {
+        Some(mistake) => (format!("with {mistake:?} planted {differing} differ"), differing > 0),
+        None if asked.files < SAMPLE => (format!("{differing} differ; no mistakes planted in so few"), differing == 0),
+        None => {
+            let missed = plant_all(&compared[..compared.len().min(PLANTED_IN)]);
+            let verdict = format!("{differing} differ; {} mistakes planted, {missed} not found", ALL.len());
+            (verdict, differing == 0 && missed == 0)
+        }
     };
-    let passed = differing == 0 && missed == 0;
-    let verdict = if passed { "passed" } else { "FAILED" };
-    println!(
-        "tests/run: {} files, {differing} differ; {planted} mistakes planted, {missed} not found: {verdict}",
-        compared.len()
-    );
+    println!("tests/run: {} files, {verdict}: {}", compared.len(), if passed { "passed" } else { "FAILED" });
     ExitCode::from(u8::from(!passed))
 }
 
@@ -65,7 +69,7 @@ fn asked_by(arguments: &[String]) -> Option<Asked> {
         numbers => (Planted::NONE, numbers),
     };
     let number = |at: usize, otherwise| numbers.get(at).map_or(Some(otherwise), |text| text.parse().ok());
-    (numbers.len() <= 2).then_some(Asked { planted, files: number(0, 400)?, seed: number(1, 0)? })
+    (numbers.len() <= 2).then_some(Asked { planted, files: number(0, SAMPLE)?, seed: number(1, 0)? })
 }
 
 // ---- files
@@ -104,7 +108,8 @@ fn contents(compared: &[Compared]) -> String {
             let answer = match line {
                 Answered::Made(_, 0) => "accepted".to_string(),
                 Answered::Made(_, number) => format!("refused by {number}"),
-                Answered::Wrong(_) => "wrong".to_string(),
+                Answered::Wrong(0) => "wrong in the first byte, empty ones too".to_string(),
+                Answered::Wrong(_) => "wrong behind it".to_string(),
             };
             *by_answer.entry(answer).or_default() += 1;
         }
@@ -119,7 +124,7 @@ fn contents(compared: &[Compared]) -> String {
 
 // ---- differences
 
-/// Which files differ, and of the shortest what differs and the smallest beginning that shows it. How many differ.
+/// Which files differ, and of the shortest the smallest beginning that shows it. How many differ.
 fn show_differences(compared: &[Compared], planted: Planted) -> usize {
     let mut differing: Vec<(&Sample, &Difference)> =
         compared.iter().filter_map(|file| Some((&file.sample, file.difference.as_ref()?))).collect();
@@ -130,7 +135,7 @@ fn show_differences(compared: &[Compared], planted: Planted) -> usize {
             Difference::Balance(line) => println!("{} is out of balance: {line}", sample.name),
         }
     }
-    if let Some((sample, difference)) = differing.first() {
+    for (sample, difference) in differing.iter().take(SHOWN) {
         let prefix = difference.smallest_prefix(sample, planted);
         println!("the smallest prefix of {} that still shows it, {} bytes:", sample.name, prefix.len());
         for line in prefix.split_inclusive(|&byte| byte == b'\n') {

@@ -28,7 +28,7 @@ impl Text {
         words.iter().map(|word| word.to_string()).collect()
     }
 
-    /// The text of the proved program.
+    /// The text of the proved program. A message on standard error, or another status than 0, makes it a wrong one.
     pub fn by_program(&self, file: &[u8]) -> Vec<u8> {
         let command = self.command();
         let path: PathBuf = ["target", "bin", &command[0]].iter().collect();
@@ -36,11 +36,14 @@ impl Text {
             .args(&command[1..])
             .stdin(Stdio::piped())
             .stdout(Stdio::piped())
+            .stderr(Stdio::piped())
             .spawn()
             .expect("a program that was built");
         // A program reads no further than one byte too many, so it may not take all of a long file.
         let _ = child.stdin.take().expect("its input").write_all(file);
-        child.wait_with_output().expect("its output").stdout
+        let output = child.wait_with_output().expect("its output");
+        let failed = if output.status.success() { String::new() } else { format!("{}\n", output.status) };
+        [output.stdout, output.stderr, failed.into_bytes()].concat()
     }
 
     /// The text of the reference, of a file that it replayed.

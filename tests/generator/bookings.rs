@@ -1,6 +1,7 @@
 //! Bookings of several sorts: what a depository sends, and orders that no one would.
 
 use super::desk::Desk;
+use crate::reference::lines::USED;
 
 /// Numbers at the ends of the ranges of document 01 and beyond them, by column: id, kind, category, day, side, amount.
 const ENDS: [&[u64]; 6] = [
@@ -13,7 +14,7 @@ const ENDS: [&[u64]; 6] = [
 ];
 
 /// Numbers that are out of most ranges, at the ends of machine numbers, up to the largest of 11 digits.
-const BEYOND: [u64; 8] = [255, 256, 257, 65_537, 4_294_967_295, 4_294_967_296, 10_000_000_000, 99_999_999_999];
+const BEYOND: [u64; 9] = [255, 256, 257, 65_537, 4_294_967_295, 4_294_967_296, 4_294_967_297, 4_294_967_298, 99_999_999_999];
 
 /// What a depository sends: pairs a few days before they are due, some late, and work on those that are open.
 pub fn months(desk: &mut Desk) {
@@ -124,8 +125,11 @@ pub fn all_days(desk: &mut Desk) {
     for _ in 0..desk.random.between(0, 6) {
         let at = desk.random.place(desk.open.len());
         desk.work_on(at);
-        desk.line([2, 1, 0, 0, 0, 3, 2]);
-        desk.enter(64, 5);
+        let some = desk.random.between(0, 3);
+        desk.line([2, some, 0, 0, 0, some, some]);
+        desk.line([3, some, 0, 0, 0, some, 0]);
+        desk.line([5, some, 0, 0, 0, 0, 0]);
+        desk.enter(61 + some, 5);
     }
 }
 
@@ -186,17 +190,11 @@ pub fn ends_of_ranges(desk: &mut Desk) {
             8 => [5, id, 0, 0, 0, 0, 0],
             _ => [6, 0, 0, 0, 0, 0, 0],
         };
-        let used: &[usize] = match numbers[0] {
-            1 => &[1, 2, 3, 4, 5, 6, 6],
-            2 => &[1, 5, 6],
-            3 => &[1, 5],
-            4 => &[1, 6, 6],
-            5 => &[1],
-            _ => &[],
-        };
-        for _ in 0..random.between(0, 2).min(used.len() as u64) {
-            let column = random.pick(used);
-            numbers[column] = if random.once_in(4) { random.pick(&BEYOND) } else { random.pick(ENDS[column - 1]) };
+        for _ in 0..random.between(0, 2) {
+            let column = random.place(6);
+            if USED[numbers[0] as usize - 1][column] {
+                numbers[1 + column] = if random.once_in(4) { random.pick(&BEYOND) } else { random.pick(ENDS[column]) };
+            }
         }
         desk.today += u64::from(numbers[0] == 6);
         desk.line(numbers);
@@ -228,18 +226,20 @@ pub fn spent_ids(desk: &mut Desk) {
     }
 }
 
-/// Pairs of the largest amounts, late by up to 63 days, so many that a rate's product passes 64 bits.
+/// Pairs of the largest amounts, late by up to 63 days, so many that a rate's product passes 64 bits. Day 1 may have one cent
+/// of ISD value alone, and so a duration of over 50 bits.
 pub fn large_values(desk: &mut Desk) {
-    let days = desk.random.between(61, 63);
-    for _ in 0..days {
+    for _ in 0..desk.random.between(61, 63) {
         desk.close();
     }
-    let pairs = desk.random.between(1_470, 1_650);
-    for n in 0..pairs {
+    let all_on_day_0 = desk.random.once_in(2);
+    desk.enter(1, 1);
+    for n in 0..desk.random.between(1_470, 1_650) {
         let kind = desk.random.pick(&[1, 1, 2, 3, 4]);
-        let (isd, less) = (u64::from(desk.random.once_in(9)), desk.random.between(0, 3));
+        let isd = u64::from(!all_on_day_0 && desk.random.once_in(9));
+        let less = desk.random.between(0, 3);
         desk.enter_kind(kind, isd, 10_000_000_000 - less);
-        if n >= 1_023 {
+        if n >= 1_022 {
             let at = desk.open.len() - 1;
             desk.cancel(at);
         }

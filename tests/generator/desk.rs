@@ -1,8 +1,7 @@
 //! A desk that writes call lines and follows roughly what is open, so that most of what it writes is accepted.
 
 use super::random::Random;
-
-pub const NAMES: &str = "call,id,kind,category,day,side,amount\n";
+use crate::reference::lines::NAMES;
 
 /// A pair that is thought to be open.
 #[derive(Clone, Copy)]

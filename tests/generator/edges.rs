@@ -1,10 +1,9 @@
 //! Files at the edges of what a file is: its names line and its length.
 
 use super::bookings::booking;
-use super::desk::{Desk, NAMES};
+use super::desk::Desk;
 use super::random::Random;
-
-const FILE_LIMIT: usize = 65_536;
+use crate::reference::lines::{FILE_LIMIT, NAMES};
 
 /// A file that is empty, or whose names line is not quite one, or that is of an odd length.
 pub fn file(random: &mut Random) -> Vec<u8> {

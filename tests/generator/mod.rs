@@ -5,6 +5,7 @@ mod damage;
 mod desk;
 mod edges;
 mod random;
+mod wrong_lines;
 
 use bookings::{all_days, crossing_orders, ends_of_ranges, full_book, large_values, late_pairs, months, one_day, spent_ids};
 use desk::Desk;
@@ -33,10 +34,11 @@ pub fn file(seed: u64) -> Vec<u8> {
     let mut random = Random::new(seed);
     match (seed % 20) as usize {
         sort @ 0..=13 => booked(BOOKINGS[sort], random),
-        14..=17 => {
+        14 | 15 => {
             let bookings = random.pick(&BOOKINGS[..13]);
             damage::damaged(booked(bookings, Random::new(random.any())), &mut random)
         }
+        16 | 17 => wrong_lines::file(&mut random),
         18 => edges::file(&mut random),
         _ => edges::full_file(&mut random),
     }
@@ -50,12 +52,13 @@ fn booked(bookings: fn(&mut Desk), random: Random) -> Vec<u8> {
 }
 
 /// A run of days to ask a report for, as arguments: mostly of days that may be closed, at times the wrong way round or of no
-/// day that a book has.
+/// day that a book has, and numbers that would be such days if they were cut to a machine's width.
 pub fn run_of_days(seed: u64) -> [String; 2] {
     let mut random = Random::new(!seed);
     let mut day = || match random.between(0, 11) {
-        0 => random.between(60, 66).to_string(),
-        1 => random.pick(&["64", "007", "18446744073709551616", "99999999999999999999999999999999"]).to_string(),
+        0 | 1 => random.between(0, 65).to_string(),
+        2 => random.pick(&["64", "007", "256", "257", "4294967296"]).to_string(),
+        3 => random.pick(&["18446744073709551616", "99999999999999999999999999999999"]).to_string(),
         _ => random.between(0, 9).to_string(),
     };
     [day(), day()]

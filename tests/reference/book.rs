@@ -92,7 +92,7 @@ impl Standing {
 
 /// Document 01, 'The pair'.
 fn is_in_range(entry: &Entry, planted: Planted) -> bool {
-    let largest = planted.unless(Mistake::AmountOneMore, 10_000_000_001, 10_000_000_000);
+    let largest = planted.right_or(Mistake::AmountOneMore, 10_000_000_000, 10_000_000_001);
     let side_unused = planted.has(Mistake::SideNotAlwaysGiven) && entry.kind >= 3 && entry.side == 0;
     (1..=65_535).contains(&entry.id)
         && (1..=4).contains(&entry.kind)
@@ -138,7 +138,7 @@ impl Book {
         if self.planted.has(Mistake::ValuesBeforeFinished) && numbers.contains(&2) {
             numbers.retain(|&n| n == 2);
         }
-        let chosen = self.planted.unless(Mistake::HighestNumberFirst, numbers.iter().max(), numbers.iter().min());
+        let chosen = self.planted.right_or(Mistake::HighestNumberFirst, numbers.iter().min(), numbers.iter().max());
         chosen.copied().unwrap_or(0)
     }
 
@@ -150,7 +150,7 @@ impl Book {
             Call::Enter(entry) => numbers.extend([
                 (2, !is_in_range(&entry, self.planted)),
                 (3, entry.id <= self.highest_spent()),
-                (4, self.taken() >= self.planted.unless(Mistake::FullAt1023, OPEN_AT_MOST - 1, OPEN_AT_MOST)),
+                (4, self.taken() >= self.planted.right_or(Mistake::FullAt1023, OPEN_AT_MOST, OPEN_AT_MOST - 1)),
             ]),
             Call::Hold { id, side, on } => {
                 let bad_id = self.planted.has(Mistake::HoldIdOutOfRange) && !(1..=65_535).contains(&id);
@@ -171,7 +171,7 @@ impl Book {
         vec![
             (2, large),
             (6, self.today < life.entry.isd && !self.planted.has(Mistake::SettledBeforeIsd)),
-            (7, self.planted.unless(Mistake::OneHoldDoesNotStop, one && other, one || other)),
+            (7, self.planted.right_or(Mistake::OneHoldDoesNotStop, one || other, one && other)),
             (8, part == 0 || part > standing.rest),
         ]
     }
@@ -179,13 +179,13 @@ impl Book {
     /// The highest id accepted.
     fn highest_spent(&self) -> u64 {
         let accepted = self.lives.last().map_or(0, |life| life.entry.id);
-        let spent = self.planted.unless(Mistake::RefusedIdSpent, accepted.max(self.highest_refused), accepted);
-        self.planted.unless(Mistake::LastIdAgain, spent.saturating_sub(1), spent)
+        let spent = self.planted.right_or(Mistake::RefusedIdSpent, accepted, accepted.max(self.highest_refused));
+        self.planted.right_or(Mistake::LastIdAgain, spent, spent.saturating_sub(1))
     }
 
     /// How many places are taken.
     fn taken(&self) -> usize {
-        let since = self.planted.unless(Mistake::PlaceFreeAtClose, self.today, self.today + 1);
+        let since = self.planted.right_or(Mistake::PlaceFreeAtClose, self.today + 1, self.today);
         self.lives.iter().filter(|life| self.planted.has(Mistake::PlaceNeverFree) || self.was_open(life, since)).count()
     }
 
@@ -226,7 +226,7 @@ impl Book {
     fn share(&self, life: &Life, day: u64) -> Row {
         let mut row = Row { settled: self.settled_on(life, day), ..Row::default() };
         let late_until = life.matched + u64::from(self.planted.has(Mistake::LateOnMatchingDayToo));
-        let late_from = self.planted.unless(Mistake::LateFromMatchingDay, late_until, life.entry.isd);
+        let late_from = self.planted.right_or(Mistake::LateFromMatchingDay, life.entry.isd, late_until);
         if (late_from..late_until).contains(&day) && life.entry.isd < life.matched {
             row += self.late_fail(life, day);
         }
@@ -235,6 +235,12 @@ impl Book {
         }
         if self.planted.has(Mistake::PartSettledOnce) && row.fails().number > 0 {
             row.settled.number = 0;
+        }
+        if self.planted.has(Mistake::NothingSettledOnDay0) && day == 0 {
+            row.settled = Figure::default();
+        }
+        if self.planted.has(Mistake::NoFailsOnLastDay) && day + 1 == self.today {
+            row = Row { settled: row.settled, ..Row::default() };
         }
         row
     }
@@ -247,7 +253,7 @@ impl Book {
         if parts.is_empty() || cancelled && self.planted.has(Mistake::SettledPartCancelled) {
             return Figure::default();
         }
-        let counted = self.planted.unless(Mistake::PartsAsInstructions, parts.len() as u64, 1);
+        let counted = self.planted.right_or(Mistake::PartsAsInstructions, 1, parts.len() as u64);
         Figure { number: 2 * counted, value: 2 * parts.iter().sum::<u64>() }
     }
 
@@ -274,17 +280,17 @@ impl Book {
         }
         let moved = self.planted.has(Mistake::LateIsdValueOnMatchingDay) && day == life.matched && life.entry.isd < day;
         let isd_value = match day == life.entry.isd || moved {
-            true => self.planted.unless(Mistake::IsdValueAtFullAmount, life.entry.amount, standing.rest),
+            true => self.planted.right_or(Mistake::IsdValueAtFullAmount, standing.rest, life.entry.amount),
             false => 0,
         };
-        let value = self.planted.unless(Mistake::FailsAtFullAmount, life.entry.amount, standing.rest);
+        let value = self.planted.right_or(Mistake::FailsAtFullAmount, standing.rest, life.entry.amount);
         self.fail(self.sides(life, day), value, isd_value)
     }
 
     /// Both SIs to a side, or one and its value to each.
     fn fail(&self, to: Sides, value: u64, isd_value: u64) -> Row {
         let both = Figure { number: 2, value: 2 * value };
-        let one = self.planted.unless(Mistake::BothHoldsInFull, both, Figure { number: 1, value });
+        let one = self.planted.right_or(Mistake::BothHoldsInFull, Figure { number: 1, value }, both);
         let (securities, cash) = match to {
             Sides::Securities => (both, Figure::default()),
             Sides::Cash => (Figure::default(), both),
@@ -299,22 +305,22 @@ impl Book {
         let standing = self.standing(life, day);
         let kind = life.entry.kind;
         let holds = u64::from(standing.deliverer_holds) + u64::from(standing.receiver_holds);
-        let for_kind_2 = self.planted.unless(Mistake::Kind2NeedsBothHolds, 2, 1);
+        let for_kind_2 = self.planted.right_or(Mistake::Kind2NeedsBothHolds, 1, 2);
         let planted = self.planted;
         if kind == 3 {
-            planted.unless(Mistake::RuleAToCash, Cash, Securities)
+            planted.right_or(Mistake::RuleAToCash, Securities, Cash)
         } else if kind == 4 {
-            planted.unless(Mistake::RuleBToSecurities, Securities, Cash)
+            planted.right_or(Mistake::RuleBToSecurities, Cash, Securities)
         } else if planted.has(Mistake::LackBeforeHolds) && standing.lack != 0 {
             one_side(standing.lack == 1)
         } else if kind == 1 && holds == 2 || kind == 2 && holds >= for_kind_2 {
-            planted.unless(Mistake::RuleCToSecurities, Securities, OneEach)
+            planted.right_or(Mistake::RuleCToSecurities, OneEach, Securities)
         } else if kind == 1 && holds == 1 {
             one_side(standing.deliverer_holds != planted.has(Mistake::RuleDOtherSide))
         } else if standing.lack != 0 {
             one_side((standing.lack == 1) != planted.has(Mistake::RuleEOtherSide))
         } else {
-            planted.unless(Mistake::RuleFToCash, Cash, Securities)
+            planted.right_or(Mistake::RuleFToCash, Securities, Cash)
         }
     }
 
@@ -322,16 +328,22 @@ impl Book {
 
     /// The rows of the closed days, by category 0 (all) to 9.
     pub fn rows(&self) -> Vec<[Row; 10]> {
-        let row_of = |day: u64| {
-            let mut rows = [Row::default(); 10];
-            for life in &self.lives {
-                let share = self.share(life, day);
+        (0..self.today - u64::from(self.planted.has(Mistake::LastRowNotGiven) && self.today > 0))
+            .map(|day| self.rows_of(day))
+            .collect()
+    }
+
+    fn rows_of(&self, day: u64) -> [Row; 10] {
+        let mut rows = [Row::default(); 10];
+        for life in &self.lives {
+            let share = self.share(life, day);
+            let category = life.entry.category as usize;
+            if !(category == 9 && self.planted.has(Mistake::Category9NotInAll)) {
                 rows[0] += share;
-                rows[life.entry.category as usize] += share;
             }
-            rows
-        };
-        (0..self.today).map(row_of).collect()
+            rows[if category == 9 { self.planted.right_or(Mistake::Category9As8, 9, 8) } else { category }] += share;
+        }
+        rows
     }
 }
 

@@ -4,7 +4,7 @@
 use super::calls::{Call, Entry};
 use super::mistakes::{Mistake, Planted};
 
-pub const NAMES: &[u8] = b"call,id,kind,category,day,side,amount\n";
+pub const NAMES: &str = "call,id,kind,category,day,side,amount\n";
 pub const FILE_LIMIT: usize = 65_536;
 
 /// A line read is a call, or the place of its first wrong byte.
@@ -14,8 +14,8 @@ pub enum Line {
     Wrong(usize),
 }
 
-/// Whether a call uses its fields: id, kind, category, day, side, amount.
-const USED: [[bool; 6]; 6] = [
+/// Which fields a call uses, by its number less 1: id, kind, category, day, side, amount.
+pub const USED: [[bool; 6]; 6] = [
     [true, true, true, true, true, true],
     [true, false, false, false, true, true],
     [true, false, false, false, true, false],
@@ -26,9 +26,10 @@ const USED: [[bool; 6]; 6] = [
 
 /// Names line wrong or over 65,536 bytes.
 pub fn is_faulty(file: &[u8], planted: Planted) -> bool {
-    let named = file.starts_with(NAMES) || planted.has(Mistake::NamesWithoutLf) && file == &NAMES[..NAMES.len() - 1];
-    let limit = planted.unless(Mistake::FullFileFaulty, FILE_LIMIT - 1, FILE_LIMIT);
-    !named || file.len() > planted.unless(Mistake::OneByteOver, limit + 1, limit)
+    let without_lf = planted.has(Mistake::NamesWithoutLf) && file == NAMES.trim_end().as_bytes();
+    let named = file.starts_with(NAMES.as_bytes()) || without_lf;
+    let limit = planted.right_or(Mistake::FullFileFaulty, FILE_LIMIT, FILE_LIMIT - 1);
+    !named || file.len() > planted.right_or(Mistake::OneByteOver, limit, limit + 1)
 }
 
 /// The lines of a file behind its names line, each with what it is read as.
@@ -50,7 +51,7 @@ fn read(line: &[u8], planted: Planted) -> Line {
     if planted.has(Mistake::CarriageReturn) && bytes.ends_with(b"\r\n") {
         bytes.remove(bytes.len() - 2);
     }
-    let first = planted.unless(Mistake::PlacesFromOne, 1, 0);
+    let first = planted.right_or(Mistake::PlacesFromOne, 0, 1);
     match (1..=bytes.len()).find(|&n| !begins_correct(&bytes[..n], planted)) {
         Some(n) => Line::Wrong(n - 1 + first),
         None if bytes.ends_with(b"\n") => Line::Correct(call_of(&bytes)),
@@ -69,7 +70,7 @@ fn begins_correct(bytes: &[u8], planted: Planted) -> bool {
 
 /// Whether the text is the nth field of a correct line with this call number. All that a field may begin with is a field.
 fn is_field(n: usize, text: &[u8], call: &[u8], planted: Planted) -> bool {
-    let most = planted.unless(Mistake::TwelfthDigit, 12, 11);
+    let most = planted.right_or(Mistake::TwelfthDigit, 11, 12);
     let zero_first = text.starts_with(b"0") && text.len() > 1 && !planted.has(Mistake::LeadingZero);
     let number = (1..=most).contains(&text.len()) && text.iter().all(u8::is_ascii_digit) && !zero_first;
     match n {

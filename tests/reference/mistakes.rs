@@ -62,6 +62,12 @@ mistakes! {
     AmountOneMore false "10,000,000,001 cents are accepted"
     Day63NotClosed false "the close of day 63 is refused"
     SideNotAlwaysGiven false "kinds 3 and 4 do without a side"
+    // Rows, each wrong in one place only.
+    Category9As8 true "category 9 is booked as 8"
+    Category9NotInAll true "category 0 leaves out category 9"
+    NothingSettledOnDay0 true "what settles on day 0 is not counted"
+    NoFailsOnLastDay true "the fails of the last closed day are not counted"
+    LastRowNotGiven true "the last closed day has no row"
     // Reports.
     HalfDown false "a half is rounded down"
     RateIn64Bits false "the product of a rate is cut to 64 bits"
@@ -92,8 +98,8 @@ impl Planted {
         self.0 == Some(mistake)
     }
 
-    /// What is right; or, where the mistake is planted, what stands in its place.
-    pub fn unless<T>(self, mistake: Mistake, wrong: T, right: T) -> T {
+    /// What is right, or where the mistake is planted what is wrong.
+    pub fn right_or<T>(self, mistake: Mistake, right: T, wrong: T) -> T {
         if self.has(mistake) {
             wrong
         } else {

@@ -18,12 +18,12 @@ pub fn report(rows: &[Row], planted: Planted) -> Report {
         sums += row;
     }
     let (fails, total) = (sums.fails(), sums.total());
-    let averaged = planted.unless(Mistake::AverageOfDurations, average_of_durations(rows), duration(&sums, planted));
+    let averaged = planted.right_or(Mistake::AverageOfDurations, duration(&sums, planted), average_of_durations(rows));
     Report {
         sums,
         rate_by_number: rate(fails.number, total.number, planted),
         rate_by_value: rate(fails.value, total.value, planted),
-        duration: planted.unless(Mistake::AbsentDuration0, averaged.or(Some(0)), averaged),
+        duration: planted.right_or(Mistake::AbsentDuration0, averaged, averaged.or(Some(0))),
     }
 }
 
@@ -51,6 +51,6 @@ fn average_of_durations(rows: &[Row]) -> Option<u64> {
 
 /// A quotient, half up.
 fn rounded(top: u128, bottom: u128, planted: Planted) -> u64 {
-    let half_more = planted.unless(Mistake::HalfDown, bottom - 1, bottom);
-    ((2 * top + half_more) / (2 * bottom)) as u64
+    let half_more = planted.right_or(Mistake::HalfDown, bottom, bottom - 1);
+    u64::try_from((2 * top + half_more) / (2 * bottom)).expect("a quotient of 64 bits")
 }
