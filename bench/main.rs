@@ -23,6 +23,7 @@ extern "C" {
 }
 
 // ---- calls
+// The Rust side is kept from being inlined into what times it, as the proved side is by being in a library.
 
 // The pairs that crates/timing enters.
 fn entry_of(id: u64) -> Entry {
@@ -38,6 +39,7 @@ fn full() -> Book {
     book
 }
 
+#[inline(never)]
 fn rust_closes(times: u64) -> u64 {
     let start = full();
     let mut last = 0;
@@ -57,18 +59,22 @@ fn accepted(times: u64, call: impl Fn(&mut Book, u64) -> u64) -> u64 {
     (0..times).filter(|&n| call(black_box(&mut book), n) == 0).count() as u64
 }
 
+#[inline(never)]
 fn rust_holds(times: u64) -> u64 {
     accepted(times, |book, n| book.hold(1024, 1, n % 2))
 }
 
+#[inline(never)]
 fn rust_settles(times: u64) -> u64 {
     accepted(times, |book, _| book.settle(1024, 1))
 }
 
+#[inline(never)]
 fn rust_enters(times: u64) -> u64 {
     accepted(times, |book, _| book.enter(entry_of(1025)))
 }
 
+#[inline(never)]
 fn rust_replaces(times: u64) -> u64 {
     accepted(times, |book, n| {
         book.cancel(1024 + n);
@@ -79,6 +85,7 @@ fn rust_replaces(times: u64) -> u64 {
 // ---- texts
 
 // The file that crates/timing reads: lines of an enter, 65,536 bytes, the last line cut off.
+#[inline(never)]
 fn rust_reads(times: u64) -> u64 {
     let mut text: Vec<u8> = b"1,12345,1,5,20,1,1234567890\n".iter().copied().cycle().take(65536).collect();
     let mut sum = 0u64;
@@ -103,6 +110,7 @@ fn proved_table(file: &[u8]) -> Vec<u8> {
     buffer[..count].to_vec()
 }
 
+#[inline(never)]
 fn rust_table(file: &[u8]) -> Vec<u8> {
     let mut text = Vec::with_capacity(TABLE_ROOM);
     table::table(file, &mut text);
