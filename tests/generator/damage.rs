@@ -1,16 +1,14 @@
-//! Files damaged in a few places: bytes, fields, lines.
+//! Files damaged in a few places: bytes and lines.
 
 use super::random::Random;
-use super::wrong_lines::damage_byte;
 use crate::reference::lines::NAMES;
 
 /// Bytes that no correct line has, or not there.
-pub const BYTES: &[u8] = b"0123456789,,\n\n\r -+.x\0\x7f\x80\xb1\xff";
+const BYTES: &[u8] = b"0123456789,,\n\n\r -+.x\0\x7f\x80\xb1\xff";
 
 /// A file with some damage behind its names line; once in a while also in it.
 pub fn damaged(file: Vec<u8>, random: &mut Random) -> Vec<u8> {
-    let names = NAMES.len() - if random.once_in(12) { NAMES.len() } else { 0 };
-    let (head, body) = file.split_at(names);
+    let (head, body) = file.split_at(if random.once_in(12) { 0 } else { NAMES.len() });
     let mut body = body.to_vec();
     for _ in 0..random.between(1, 12) {
         if body.is_empty() {
@@ -27,6 +25,17 @@ pub fn damaged(file: Vec<u8>, random: &mut Random) -> Vec<u8> {
         _ => {}
     }
     [head, &body].concat()
+}
+
+/// Another byte at some place, one more, one less, or one more before the last.
+pub fn damage_byte(bytes: &mut Vec<u8>, random: &mut Random) {
+    let (at, byte) = (random.place(bytes.len()), random.pick(BYTES));
+    match random.between(0, 3) {
+        0 => bytes[at] = byte,
+        1 => bytes.insert(at, byte),
+        2 => drop(bytes.remove(at)),
+        _ => bytes.insert(bytes.len() - 1, byte),
+    }
 }
 
 /// A line changed as someone would who writes such files wrongly.

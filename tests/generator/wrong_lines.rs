@@ -1,6 +1,6 @@
 //! Lines of all six calls, many of them wrong: in each field, used or not, and in each byte.
 
-use super::damage::BYTES;
+use super::damage::damage_byte;
 use super::random::Random;
 use crate::reference::lines::{NAMES, USED};
 
@@ -48,15 +48,4 @@ fn fields(id: u64, random: &mut Random) -> Vec<Vec<u8>> {
         _ => {}
     }
     fields
-}
-
-/// Another byte at some place, one more, one less, or one more before the LF.
-pub fn damage_byte(line: &mut Vec<u8>, random: &mut Random) {
-    let (at, byte) = (random.place(line.len()), random.pick(BYTES));
-    match random.between(0, 3) {
-        0 => line[at] = byte,
-        1 => line.insert(at, byte),
-        2 => drop(line.remove(at)),
-        _ => line.insert(line.len() - 1, byte),
-    }
 }

@@ -225,24 +225,30 @@ impl Book {
     /// What a pair gives to the row of a day, which is closed.
     fn share(&self, life: &Life, day: u64) -> Row {
         let mut row = Row { settled: self.settled_on(life, day), ..Row::default() };
-        let late_until = life.matched + u64::from(self.planted.has(Mistake::LateOnMatchingDayToo));
-        let late_from = self.planted.right_or(Mistake::LateFromMatchingDay, life.entry.isd, late_until);
-        if (late_from..late_until).contains(&day) && life.entry.isd < life.matched {
+        let missed = life.entry.isd..life.matched;
+        let once_more = self.planted.has(Mistake::LateOnMatchingDayToo) && !missed.is_empty() && day == life.matched;
+        if missed.contains(&day) && !self.planted.has(Mistake::LateFromMatchingDay) || once_more {
             row += self.late_fail(life, day);
         }
-        if day >= life.matched && life.entry.isd <= day {
+        if day >= life.matched && day >= life.entry.isd {
             row += self.fail_at_close(life, day);
         }
+        row
+    }
+
+    /// The same, with the mistakes that are made in a row.
+    fn spoilt(&self, row: Row, day: u64) -> Row {
+        let mut spoilt = row;
         if self.planted.has(Mistake::PartSettledOnce) && row.fails().number > 0 {
-            row.settled.number = 0;
+            spoilt.settled.number = 0;
         }
         if self.planted.has(Mistake::NothingSettledOnDay0) && day == 0 {
-            row.settled = Figure::default();
+            spoilt.settled = Figure::default();
         }
         if self.planted.has(Mistake::NoFailsOnLastDay) && day + 1 == self.today {
-            row = Row { settled: row.settled, ..Row::default() };
+            spoilt = Row { settled: row.settled, ..Row::default() };
         }
-        row
+        spoilt
     }
 
     /// The parts settled on a day: 2 SIs once, and twice their value.
@@ -328,20 +334,19 @@ impl Book {
 
     /// The rows of the closed days, by category 0 (all) to 9.
     pub fn rows(&self) -> Vec<[Row; 10]> {
-        (0..self.today - u64::from(self.planted.has(Mistake::LastRowNotGiven) && self.today > 0))
-            .map(|day| self.rows_of(day))
-            .collect()
+        let closed = self.planted.right_or(Mistake::LastRowNotGiven, self.today, self.today.saturating_sub(1));
+        (0..closed).map(|day| self.rows_of(day)).collect()
     }
 
     fn rows_of(&self, day: u64) -> [Row; 10] {
         let mut rows = [Row::default(); 10];
         for life in &self.lives {
-            let share = self.share(life, day);
+            let share = self.spoilt(self.share(life, day), day);
             let category = life.entry.category as usize;
-            if !(category == 9 && self.planted.has(Mistake::Category9NotInAll)) {
+            rows[self.planted.right_or(Mistake::Category9As8, category, category.min(8))] += share;
+            if category < 9 || !self.planted.has(Mistake::Category9NotInAll) {
                 rows[0] += share;
             }
-            rows[if category == 9 { self.planted.right_or(Mistake::Category9As8, 9, 8) } else { category }] += share;
         }
         rows
     }
