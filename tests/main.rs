@@ -137,7 +137,7 @@ fn show_differences(compared: &[Compared], planted: Planted) -> usize {
     }
     for (sample, difference) in differing.iter().take(SHOWN) {
         let prefix = difference.smallest_prefix(sample, planted);
-        println!("the smallest prefix of {} that still shows it, {} bytes:", sample.name, prefix.len());
+        println!("the smallest prefix found of {} that still shows it, {} bytes:", sample.name, prefix.len());
         for line in prefix.split_inclusive(|&byte| byte == b'\n') {
             println!("    {}", line.escape_ascii());
         }

@@ -49,7 +49,7 @@ enum Sides {
 
 pub struct Book {
     lives: Vec<Life>,
-    pub today: u64,
+    today: u64,
     planted: Planted,
     highest_refused: u64,
 }
