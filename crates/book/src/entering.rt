@@ -39,22 +39,12 @@ impl Entry {
     fn is_in_range(self) -> bool
         ensures { λ r. ⌜ r ≡ inRange self ⌝ }
     {
-        if !is_within(1, LARGEST_ID, self.id) {
-            return false;
-        }
-        if !is_within(1, 4, self.kind) {
-            return false;
-        }
-        if !is_within(1, CATEGORIES, self.category) {
-            return false;
-        }
-        if DAYS <= self.isd {
-            return false;
-        }
-        if !is_within(1, 2, self.side) {
-            return false;
-        }
-        is_within(1, LARGEST_AMOUNT, self.amount)
+        is_within(1, LARGEST_ID, self.id)
+            & is_within(1, 4, self.kind)
+            & is_within(1, CATEGORIES, self.category)
+            & (self.isd < DAYS)
+            & is_within(1, 2, self.side)
+            & is_within(1, LARGEST_AMOUNT, self.amount)
     }
 
     // The terms of an accepted enter.

@@ -57,17 +57,21 @@ highestIn call column = getD (highestOf call) column 0
 abbrev pub lowestIn : ℕ → ℕ
 lowestIn column = cond (eqb column 0) 1 0
 
+-- what an enter with these fields gives
+abbrev pub entryOf : List ℕ → Entry
+entryOf f = record {
+  id = getD f 1 0;
+  kind = getD f 2 0;
+  category = getD f 3 0;
+  isd = getD f 4 0;
+  side = getD f 5 0;
+  amount = getD f 6 0;
+}
+
 -- the call with these fields
 abbrev pub callOf : List ℕ → Call
 callOf f =
-    cond (eqb (getD f 0 0) 1) (Call.Enter (record {
-      id = getD f 1 0;
-      kind = getD f 2 0;
-      category = getD f 3 0;
-      isd = getD f 4 0;
-      side = getD f 5 0;
-      amount = getD f 6 0;
-    }))
+    cond (eqb (getD f 0 0) 1) (Call.Enter (entryOf f))
     (cond (eqb (getD f 0 0) 2) (Call.Hold (getD f 1 0) (getD f 5 0) (getD f 6 0))
     (cond (eqb (getD f 0 0) 3) (Call.Lack (getD f 1 0) (getD f 5 0))
     (cond (eqb (getD f 0 0) 4) (Call.Settle (getD f 1 0) (getD f 6 0))

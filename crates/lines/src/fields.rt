@@ -1,7 +1,7 @@
 // The columns of a call line, by call: call, id, kind, category, day, side, amount.
 ghost use mathlib.Core.Path.{_≡_};
 ghost use Prim.Native.Nat.{_<_};
-ghost use Rattle.lines.specs.Fields.{columnCount, highestOf, highestIn, lowestIn, callOf};
+ghost use Rattle.lines.specs.Fields.{columnCount, highestOf, highestIn, lowestIn, entryOf, callOf};
 use book::calls::Call;
 use book::pairs::Entry;
 
@@ -46,20 +46,27 @@ pub(crate) fn lowest_in(column: usize) -> u64
     if column == 0 { 1 } else { 0 }
 }
 
+// What an enter with these fields gives.
+fn entry_of(values: [u64; COLUMNS]) -> Entry
+    ensures { λ r. ⌜ r ≡ entryOf values ⌝ }
+{
+    Entry {
+        id: values[1],
+        kind: values[2],
+        category: values[3],
+        isd: values[4],
+        side: values[5],
+        amount: values[6],
+    }
+}
+
 // The call with these fields.
 pub(crate) fn call_of(values: [u64; COLUMNS]) -> Call
     ensures { λ r. ⌜ r ≡ callOf values ⌝ }
 {
     let call = values[0];
     match call {
-        1 => Call::Enter(Entry {
-            id: values[1],
-            kind: values[2],
-            category: values[3],
-            isd: values[4],
-            side: values[5],
-            amount: values[6],
-        }),
+        1 => Call::Enter(entry_of(values)),
         2 => Call::Hold(values[1], values[5], values[6]),
         3 => Call::Lack(values[1], values[5]),
         4 => Call::Settle(values[1], values[6]),

@@ -10,7 +10,7 @@ use Rattle.book.specs.Limits.{dayLimit, categoryCount, openLimit, larges
 use Rattle.book.specs.Sums.{within}
 use Rattle.book.specs.Pairs.{Entry, inRange, isOpen}
 use Rattle.book.specs.Answers.{Call, View, refused, isFinished, isSpent, isFull, notOpen, notDue, onHold, wrongPart, answer}
-use Rattle.book.proofs.Theorems.Sums.{tests, and-true, or-false}
+use Rattle.book.proofs.Theorems.Sums.{tests, and-true, and-left, and-right, or-false}
 
 -- ---- the conditions of each call
 
@@ -68,18 +68,12 @@ from-within low high n h =
 
 -- an enter that passes the test of its ranges has each value in its range
 pub in-ranges : (e : Entry) → inRange e ≡ true → Ranges e
-in-ranges e h =
-    let r5 = and-true _ (within 1 largestAmount (e .amount)) h in
-    let r4 = and-true _ (within 1 2 (e .side)) (r5 .0) in
-    let r3 = and-true _ (ltb (e .isd) dayLimit) (r4 .0) in
-    let r2 = and-true _ (within 1 categoryCount (e .category)) (r3 .0) in
-    let r1 = and-true _ (within 1 4 (e .kind)) (r2 .0) in
-    record {
-      id = from-within 1 largestId (e .id) (r1 .0);
-      category = from-within 1 categoryCount (e .category) (r2 .1);
-      isd = ltb-true (e .isd) dayLimit (r3 .1);
-      amount = from-within 1 largestAmount (e .amount) (r5 .1);
-    }
+in-ranges e h = record {
+  id = from-within 1 largestId (e .id) (search (and-left, and-right));
+  category = from-within 1 categoryCount (e .category) (search (and-left, and-right));
+  isd = ltb-true (e .isd) dayLimit (search (and-left, and-right));
+  amount = from-within 1 largestAmount (e .amount) (search (and-left, and-right));
+}
 
 -- an accepted enter passes the test of its ranges
 pub enter-in-range : (v : View) (e : Entry) → answer v (Call.Enter e) ≡ 0 → inRange e ≡ true

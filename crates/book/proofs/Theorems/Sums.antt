@@ -25,6 +25,13 @@ pub and-true : (a b : Bool) → (a && b) ≡ true → (a ≡ true) × (b ≡ tru
 and-true true b h = (refl, h)
 and-true false b h = clash h refl
 
+-- the same, each by itself
+pub and-left : (a b : Bool) → (a && b) ≡ true → a ≡ true
+and-left a b h = and-true a b h .0
+
+pub and-right : (a b : Bool) → (a && b) ≡ true → b ≡ true
+and-right a b h = and-true a b h .1
+
 -- where neither passes, each fails
 pub or-false : (a b : Bool) → (a || b) ≡ false → (a ≡ false) × (b ≡ false)
 or-false true b h = clash refl h

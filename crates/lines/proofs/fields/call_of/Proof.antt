@@ -1,12 +1,13 @@
 -- `call_of` meets its contract: each arm by the number that it matched, and the last by those that it did not.
 -- Assumes nothing.
+use borrow.Author.Needs.{needs}
 use native.Mathlib.Omega.{arith}
 use borrow.Author.Tests.{ne-eqb}
 use Rattle.lines.proofs.fields.call_of.Statement.{statement}
 use Rattle.lines.proofs.fields.call_of.Tie as tie
 
 returns : tie.Need-returns
-returns c = rw (c .match .keys1)
+returns c = rw (c .entry-of .ensures, c .before .match .keys1)
 
 returns-2 : tie.Need-returns-2
 returns-2 c = rw (c .match .keys2)
@@ -36,12 +37,7 @@ call-of-spec =
     tie.close
     (tie.spec
     (λ c. omega arith)
-    (λ c. omega arith)
-    (λ c. omega arith)
-    (λ c. omega arith)
-    (λ c. omega arith)
-    (λ c. omega arith)
-    (λ c. omega arith)
+    (λ c κs. search needs)
     (λ c. omega arith)
     (λ c. omega arith)
     (λ c. omega arith)
