@@ -3,6 +3,7 @@
 pub const PAIRS: usize = 1024;
 pub const DAYS: u64 = 64;
 pub const CATEGORIES: u64 = 9;
+pub const LARGEST_CODE: u64 = 40;
 pub const CELLS: usize = (DAYS * CATEGORIES) as usize;
 
 #[derive(Clone, Copy)]
@@ -24,6 +25,11 @@ pub struct Pair {
     pub receiver_holds: bool,
     pub lack: u8,
     pub last_part: u8,
+    // Carried as in the proved pair; no call reads them.
+    #[expect(dead_code)]
+    pub deliverer: u8,
+    #[expect(dead_code)]
+    pub receiver: u8,
 }
 
 #[derive(Clone, Copy, Default)]
@@ -109,6 +115,8 @@ pub struct Entry {
     pub isd: u64,
     pub side: u64,
     pub amount: u64,
+    pub deliverer: u64,
+    pub receiver: u64,
 }
 
 fn cell_at(day: u64, category: u64) -> usize {
@@ -133,7 +141,9 @@ impl Book {
             && (1..=CATEGORIES).contains(&e.category)
             && e.isd < DAYS
             && (1..=2).contains(&e.side)
-            && (1..=10_000_000_000).contains(&e.amount);
+            && (1..=10_000_000_000).contains(&e.amount)
+            && (1..=LARGEST_CODE).contains(&e.deliverer)
+            && (1..=LARGEST_CODE).contains(&e.receiver);
         if !in_range {
             return 2;
         }
@@ -150,6 +160,8 @@ impl Book {
             category: e.category as u8,
             isd: e.isd as u8,
             side: e.side as u8,
+            deliverer: e.deliverer as u8,
+            receiver: e.receiver as u8,
             ..Pair::default()
         };
         let sides = place.sides_when_late();

@@ -4,7 +4,7 @@ mod book;
 mod lines;
 mod table;
 
-use book::{Book, Entry, PAIRS};
+use book::{Book, Entry, LARGEST_CODE, PAIRS};
 use lines::{next_line, read_line, Line};
 use std::hint::black_box;
 use std::time::Instant;
@@ -27,7 +27,16 @@ extern "C" {
 
 // The pairs that crates/timing enters.
 fn entry_of(id: u64) -> Entry {
-    Entry { id, kind: 1 + id % 4, category: 1 + id % 9, isd: 0, side: 1 + id % 2, amount: 1_000_000 + id % 65_536 }
+    Entry {
+        id,
+        kind: 1 + id % 4,
+        category: 1 + id % 9,
+        isd: 0,
+        side: 1 + id % 2,
+        amount: 1_000_000 + id % 65_536,
+        deliverer: 1 + id % LARGEST_CODE,
+        receiver: 1 + id / LARGEST_CODE % LARGEST_CODE,
+    }
 }
 
 // The book that crates/timing starts from: 1,024 open pairs over nine categories and four kinds, all due on day 0.
@@ -87,7 +96,7 @@ fn rust_replaces(times: u64) -> u64 {
 // The file that crates/timing reads: lines of an enter, 65,536 bytes, the last line cut off.
 #[inline(never)]
 fn rust_reads(times: u64) -> u64 {
-    let mut text: Vec<u8> = b"1,12345,1,5,20,1,1234567890\n".iter().copied().cycle().take(65536).collect();
+    let mut text: Vec<u8> = b"1,12345,1,5,20,1,1234567890,12,34\n".iter().copied().cycle().take(65536).collect();
     let mut sum = 0u64;
     for n in 0..times {
         text[0] = b'1' + (n % 6) as u8;

@@ -1,15 +1,15 @@
 // The table of a call file in plain Rust: lines read, calls made on one book in place, rows written.
 use crate::book::{Book, Cell, Entry};
-use crate::lines::{next_line, read_line, Line};
+use crate::lines::{next_line, read_line, Line, COLUMNS};
 use std::io::Write;
 
-const NAMES: &[u8] = b"call,id,kind,category,day,side,amount\n";
+const NAMES: &[u8] = b"call,id,kind,category,day,side,amount,deliverer,receiver\n";
 const FILE_LIMIT: usize = 65_536;
 
-fn make(book: &mut Book, values: [u64; 7]) -> u64 {
-    let [call, id, kind, category, isd, side, amount] = values;
+fn make(book: &mut Book, values: [u64; COLUMNS]) -> u64 {
+    let [call, id, kind, category, isd, side, amount, deliverer, receiver] = values;
     match call {
-        1 => book.enter(Entry { id, kind, category, isd, side, amount }),
+        1 => book.enter(Entry { id, kind, category, isd, side, amount, deliverer, receiver }),
         2 => book.hold(id, side, amount),
         3 => book.lack(id, side),
         4 => book.settle(id, amount),

@@ -1,16 +1,19 @@
 //! Bookings of several sorts: what a depository sends, and orders that no one would.
 
-use super::desk::Desk;
-use crate::reference::lines::USED;
+use super::desk::{numbers_of, Desk};
+use crate::reference::calls::Call;
+use crate::reference::lines::{COLUMNS, USERS};
 
-/// Numbers at the ends of the ranges of document 01 and beyond them, by column: id, kind, category, day, side, amount.
-const ENDS: [&[u64]; 6] = [
+/// Numbers at the ends of their ranges and beyond them, by column: id, kind, category, day, side, amount, and the two codes.
+const ENDS: [&[u64]; COLUMNS - 1] = [
     &[0, 1, 65_535, 65_536],
     &[0, 1, 4, 5],
     &[0, 1, 9, 10],
     &[0, 63, 64],
     &[0, 0, 1, 2, 3],
     &[0, 1, 2, 9_999_999_999, 10_000_000_000, 10_000_000_001],
+    &[0, 1, 40, 41],
+    &[0, 1, 40, 41],
 ];
 
 /// Numbers that are out of most ranges, at the ends of machine numbers, up to the largest of 11 digits.
@@ -38,8 +41,8 @@ pub fn booking(desk: &mut Desk) {
             let behind = desk.random.between(1, 3);
             desk.enter(desk.today.saturating_sub(behind), amount);
         }
-        (9, Some(at)) => desk.line([4, desk.open[at].id, 0, 0, 0, 0, amount]),
-        (10, Some(_)) => desk.line([1, desk.last_id, 1, 1, desk.today.min(63), 1, amount]),
+        (9, Some(at)) => desk.call(Call::Settle { id: desk.open[at].id, part: amount }),
+        (10, Some(_)) => desk.offer(desk.last_id, 1, desk.today.min(63), amount),
         (_, Some(at)) => desk.work_on(at),
     }
 }
@@ -52,18 +55,18 @@ pub fn crossing_orders(desk: &mut Desk) {
         let (isd, small) = ((desk.today + random.between(0, 3)).saturating_sub(2), random.between(0, 5));
         match random.between(0, 9) {
             0..=2 => {
-                let terms = [random.between(1, 4), random.between(1, 9), isd, random.between(1, 2), random.between(1, 5)];
-                desk.line([1, id, terms[0], terms[1], terms[2], terms[3], terms[4]]);
+                let (kind, amount) = (random.between(1, 4), random.between(1, 5));
+                desk.offer(id, kind, isd, amount);
                 desk.last_id = desk.last_id.max(id);
             }
             3 | 4 => {
                 let (side, on) = (random.between(1, 2), random.between(0, 1));
-                desk.line([2, id, 0, 0, 0, side, on]);
+                desk.call(Call::Hold { id, side, on });
             }
-            5 => desk.line([3, id, 0, 0, 0, small % 3, 0]),
-            6 | 7 => desk.line([4, id, 0, 0, 0, 0, small]),
-            8 if small < 2 => desk.line([5, id, 0, 0, 0, 0, 0]),
-            8 => desk.line([2, id, 0, 0, 0, small, small % 3]),
+            5 => desk.call(Call::Lack { id, lack: small % 3 }),
+            6 | 7 => desk.call(Call::Settle { id, part: small }),
+            8 if small < 2 => desk.call(Call::Cancel { id }),
+            8 => desk.call(Call::Hold { id, side: small, on: small % 3 }),
             _ => desk.close(),
         }
     }
@@ -83,13 +86,14 @@ pub fn full_book(desk: &mut Desk) {
     for _ in 0..desk.random.between(4, 60) {
         let at = desk.random.place(desk.open.len());
         let pair = desk.open[at];
-        match desk.random.between(0, 9) {
-            0 => desk.line([1, desk.last_id, 1, 1, 0, 1, 5]),
-            1 => desk.line([1, desk.last_id + 1, 5, 1, 0, 1, 5]),
-            2 if pair.isd <= desk.today && pair.rest > 1 => desk.settle(at, 1),
-            3 if pair.isd <= desk.today => desk.settle(at, pair.rest),
-            4 => desk.cancel(at),
-            5 => desk.close(),
+        match desk.random.between(0, 10) {
+            0 => desk.offer(desk.last_id, 1, 0, 5),
+            1 => desk.offer(desk.last_id + 1, 5, 0, 5),
+            2 => offer_wrong_code(desk),
+            3 if pair.isd <= desk.today && pair.rest > 1 => desk.settle(at, 1),
+            4 if pair.isd <= desk.today => desk.settle(at, pair.rest),
+            5 => desk.cancel(at),
+            6 => desk.close(),
             _ => another(desk),
         }
     }
@@ -104,6 +108,14 @@ fn another(desk: &mut Desk) {
         desk.open.pop();
         desk.last_id -= desk.random.between(0, 1);
     }
+}
+
+/// An enter with a code that no participant has, at one of its ends.
+fn offer_wrong_code(desk: &mut Desk) {
+    let mut entry = desk.entry(desk.last_id + 1, 1, 0, 5);
+    let end = if desk.random.once_in(2) { &mut entry.deliverer } else { &mut entry.receiver };
+    *end = desk.random.pick(&[0, 41]);
+    desk.call(Call::Enter(entry));
 }
 
 /// All 64 days and calls behind the last one, with pairs due on the first and on the last day.
@@ -126,10 +138,11 @@ pub fn all_days(desk: &mut Desk) {
         let at = desk.random.place(desk.open.len());
         desk.work_on(at);
         let some = desk.random.between(0, 3);
-        desk.line([2, some, 0, 0, 0, some, some]);
-        desk.line([3, some, 0, 0, 0, some, 0]);
-        desk.line([5, some, 0, 0, 0, 0, 0]);
+        desk.call(Call::Hold { id: some, side: some, on: some });
+        desk.call(Call::Lack { id: some, lack: some });
+        desk.call(Call::Cancel { id: some });
         desk.enter(61 + some, 5);
+        offer_wrong_code(desk);
     }
 }
 
@@ -166,7 +179,7 @@ pub fn one_day(desk: &mut Desk) {
                     desk.settle(at, part);
                 }
                 6 => desk.hold(pair.id),
-                7 => desk.line([2, pair.id, 0, 0, 0, 1 + pair.id % 2, 0]),
+                7 => desk.call(Call::Hold { id: pair.id, side: 1 + pair.id % 2, on: 0 }),
                 8 => desk.cancel(at),
                 _ => desk.work_on(at),
             }
@@ -178,26 +191,33 @@ pub fn one_day(desk: &mut Desk) {
 /// Each call with values at the ends of their ranges and beyond them, up to 11 digits.
 pub fn ends_of_ranges(desk: &mut Desk) {
     for n in 0..desk.random.between(20, 120) {
-        let id = 1 + n / 2;
+        let call = in_range(desk, 1 + n / 2);
+        let mut numbers = numbers_of(call);
         let random = &mut desk.random;
-        let mut numbers = match random.between(0, 9) {
-            0..=3 => {
-                [1, id, random.between(1, 4), random.between(1, 9), desk.today, random.between(1, 2), random.between(1, 9)]
-            }
-            4 => [2, id, 0, 0, 0, random.between(1, 2), random.between(0, 1)],
-            5 => [3, id, 0, 0, 0, random.between(0, 2), 0],
-            6 | 7 => [4, id, 0, 0, 0, 0, random.between(0, 9)],
-            8 => [5, id, 0, 0, 0, 0, 0],
-            _ => [6, 0, 0, 0, 0, 0, 0],
-        };
         for _ in 0..random.between(0, 2) {
-            let column = random.place(6);
-            if USED[numbers[0] as usize - 1][column] {
+            let column = random.place(ENDS.len());
+            if USERS[1 + column].contains(&(b'0' + numbers[0] as u8)) {
                 numbers[1 + column] = if random.once_in(4) { random.pick(&BEYOND) } else { random.pick(ENDS[column]) };
             }
         }
-        desk.today += u64::from(numbers[0] == 6);
+        desk.today += u64::from(matches!(call, Call::Close));
         desk.line(numbers);
+    }
+}
+
+/// A call on an id with values in their ranges.
+fn in_range(desk: &mut Desk, id: u64) -> Call {
+    let random = &mut desk.random;
+    match random.between(0, 9) {
+        0..=3 => {
+            let (kind, amount) = (random.between(1, 4), random.between(1, 9));
+            Call::Enter(desk.entry(id, kind, desk.today, amount))
+        }
+        4 => Call::Hold { id, side: random.between(1, 2), on: random.between(0, 1) },
+        5 => Call::Lack { id, lack: random.between(0, 2) },
+        6 | 7 => Call::Settle { id, part: random.between(0, 9) },
+        8 => Call::Cancel { id },
+        _ => Call::Close,
     }
 }
 
@@ -215,10 +235,10 @@ pub fn spent_ids(desk: &mut Desk) {
         };
         let kind = random.pick(&[1, 2, 3, 4, 5]);
         let isd = desk.today.saturating_sub(random.between(0, 1));
-        desk.line([1, id, kind, 1, isd, 1, 100]);
+        desk.offer(id, kind, isd, 100);
         match desk.random.between(0, 7) {
-            0 => desk.line([4, id, 0, 0, 0, 0, 100]),
-            1 => desk.line([5, id, 0, 0, 0, 0, 0]),
+            0 => desk.call(Call::Settle { id, part: 100 }),
+            1 => desk.call(Call::Cancel { id }),
             2 => desk.hold(id),
             3 => desk.close(),
             _ => {}
@@ -226,15 +246,15 @@ pub fn spent_ids(desk: &mut Desk) {
     }
 }
 
-/// Pairs of the largest amounts, late by up to 63 days, so many that a rate's product passes 64 bits. Day 1 may have one cent
-/// of ISD value alone, and so a duration of over 50 bits.
+/// Pairs of the largest amounts, late by up to 63 days, so many that a rate's product passes 64 bits, and no more than a
+/// file holds. Day 1 may have one cent of ISD value alone, and so a duration of over 50 bits.
 pub fn large_values(desk: &mut Desk) {
     for _ in 0..desk.random.between(61, 63) {
         desk.close();
     }
     let all_on_day_0 = desk.random.once_in(2);
     desk.enter(1, 1);
-    for n in 0..desk.random.between(1_470, 1_650) {
+    for n in 0..desk.random.between(1_470, 1_600) {
         let kind = desk.random.pick(&[1, 1, 2, 3, 4]);
         let isd = u64::from(!all_on_day_0 && desk.random.once_in(9));
         let less = desk.random.between(0, 3);

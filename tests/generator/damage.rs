@@ -1,7 +1,7 @@
 //! Files damaged in a few places: bytes and lines.
 
 use super::random::Random;
-use crate::reference::lines::NAMES;
+use crate::reference::lines::{CODES, NAMES};
 
 /// Bytes that no correct line has, or not there.
 const BYTES: &[u8] = b"0123456789,,\n\n\r -+.x\0\x7f\x80\xb1\xff";
@@ -44,7 +44,7 @@ fn damage_line(body: &mut Vec<u8>, random: &mut Random) {
     let at = random.place(lines.len());
     let line = lines[at].strip_suffix(b"\n").unwrap_or(&lines[at]).to_vec();
     let digits = "7".repeat(random.pick(&[1, 11, 2_000]));
-    lines[at] = match random.between(0, 11) {
+    lines[at] = match random.between(0, 12) {
         0 => [&line[..], b"\r\n"].concat(),
         1 => line,
         2 => [b"\n", &line[..], b"\n"].concat(),
@@ -56,7 +56,14 @@ fn damage_line(body: &mut Vec<u8>, random: &mut Random) {
         8 => [&line[..], digits.as_bytes(), b"\n"].concat(),
         9 => [b"0", &line[..], b"\n"].concat(),
         10 => b"\n".to_vec(),
+        11 => [&without_codes(&line)[..], b"\n"].concat(),
         _ => [line.strip_prefix(b"1,").unwrap_or(&line), b"\n"].concat(),
     };
     *body = lines.concat();
+}
+
+/// The fields that a line has before its codes.
+fn without_codes(line: &[u8]) -> Vec<u8> {
+    let fields: Vec<&[u8]> = line.split(|&byte| byte == b',').take(CODES.start).collect();
+    fields.join(&b',')
 }

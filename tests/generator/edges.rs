@@ -3,13 +3,14 @@
 use super::bookings::booking;
 use super::desk::Desk;
 use super::random::Random;
-use crate::reference::lines::{FILE_LIMIT, NAMES};
+use crate::reference::lines::{FILE_LIMIT, NAMES, NAMES_WITHOUT_CODES};
 
-/// A file that is empty, or whose names line is not quite one, or that is of an odd length.
+/// A file that is empty, or whose names line is not quite one or not its lines', or that is of an odd length.
 pub fn file(random: &mut Random) -> Vec<u8> {
-    let calls = "1,1,1,1,0,1,100\n6,0,0,0,0,0,0\n";
+    let calls = "1,1,1,1,0,1,100,1,40\n6,0,0,0,0,0,0,0,0\n";
+    let calls_without_codes = "1,1,1,1,0,1,100\n6,0,0,0,0,0,0\n";
     let named = &NAMES[..NAMES.len() - 1];
-    let text = match random.between(0, 12) {
+    let text = match random.between(0, 15) {
         0 => String::new(),
         1 => NAMES.to_string(),
         2 => named.to_string(),
@@ -22,6 +23,9 @@ pub fn file(random: &mut Random) -> Vec<u8> {
         9 => NAMES[..random.place(NAMES.len())].to_string(),
         10 => format!("{NAMES}{}", &calls[..random.place(calls.len())]),
         11 => format!("{NAMES}{calls}{}", "\n".repeat(random.place(FILE_LIMIT))),
+        12 => format!("{NAMES}{calls_without_codes}"),
+        13 => format!("{NAMES_WITHOUT_CODES}{calls_without_codes}"),
+        14 => format!("{NAMES_WITHOUT_CODES}{calls}"),
         _ => return full_file(random),
     };
     text.into_bytes()

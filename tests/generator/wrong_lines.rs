@@ -2,7 +2,7 @@
 
 use super::damage::damage_byte;
 use super::random::Random;
-use crate::reference::lines::{NAMES, USED};
+use crate::reference::lines::{CODES, COLUMNS, NAMES, USERS};
 
 /// Texts that are no field, or not everywhere.
 const TEXTS: [&[u8]; 13] =
@@ -21,13 +21,14 @@ pub fn file(random: &mut Random) -> Vec<u8> {
     text
 }
 
-/// The fields of a call with small numbers or the longest ones, and now and then one field that is wrong, or wrong there.
+/// The fields of a call with small numbers or the longest ones, and now and then one field that is wrong, or wrong there,
+/// no codes at all, or codes whatever the call.
 fn fields(id: u64, random: &mut Random) -> Vec<Vec<u8>> {
-    let call = random.place(6);
+    let call = random.pick(USERS[0]);
     let longest = random.once_in(8);
-    let mut fields = vec![vec![b'1' + call as u8]];
-    for used in USED[call] {
-        let number: &[u8] = if !used {
+    let mut fields = vec![vec![call]];
+    for users in &USERS[1..] {
+        let number: &[u8] = if !users.contains(&call) {
             b"0"
         } else if longest && !random.once_in(9) {
             b"99999999999"
@@ -36,15 +37,17 @@ fn fields(id: u64, random: &mut Random) -> Vec<Vec<u8>> {
         };
         fields.push(number.to_vec());
     }
-    if call == 0 && !longest {
+    if call == b'1' && !longest {
         fields[1] = id.to_string().into_bytes();
     }
-    let at = random.place(7);
-    match random.between(0, 9) {
+    let at = random.place(COLUMNS);
+    match random.between(0, 11) {
         0 | 1 => fields[at] = random.pick(&TEXTS).to_vec(),
         2 => fields[at].insert(0, b'0'),
         3 => fields[at].extend(b"99999999999"),
         4 if random.once_in(3) => drop(fields.remove(at)),
+        5 if random.once_in(3) => fields.truncate(CODES.start),
+        6 => fields[CODES].fill(b"7".to_vec()),
         _ => {}
     }
     fields

@@ -6,6 +6,7 @@ use std::ops::AddAssign;
 
 pub const DAYS: u64 = 64;
 const OPEN_AT_MOST: usize = 1024;
+pub const LARGEST_CODE: u64 = 40;
 
 /// SIs and their value in cents.
 #[derive(Clone, Copy, Default)]
@@ -90,7 +91,7 @@ impl Standing {
     }
 }
 
-/// Document 01, 'The pair'.
+/// Document 01, 'The pair'; document 02, card 1.
 fn is_in_range(entry: &Entry, planted: Planted) -> bool {
     let largest = planted.right_or(Mistake::AmountOneMore, 10_000_000_000, 10_000_000_001);
     let side_unused = planted.has(Mistake::SideNotAlwaysGiven) && entry.kind >= 3 && entry.side == 0;
@@ -100,6 +101,18 @@ fn is_in_range(entry: &Entry, planted: Planted) -> bool {
         && entry.isd < DAYS
         && ((1..=2).contains(&entry.side) || side_unused)
         && (1..=largest).contains(&entry.amount)
+        && (is_code(entry.deliverer, planted) || planted.has(Mistake::DelivererNotChecked))
+        && (is_code(entry.receiver, planted) || planted.has(Mistake::ReceiverNotChecked))
+        && !(planted.has(Mistake::SameCodeRefused) && entry.deliverer == entry.receiver)
+}
+
+/// Whether a number is the code of a participant.
+fn is_code(number: u64, planted: Planted) -> bool {
+    let code = planted.right_or(Mistake::CodeCutToByte, number, number % 256);
+    let first = planted.right_or(Mistake::Code0Accepted, 1, 0);
+    let last = planted.right_or(Mistake::Code40Refused, LARGEST_CODE, LARGEST_CODE - 1);
+    let last = planted.right_or(Mistake::Code41Accepted, last, last + 1);
+    (first..=last).contains(&code)
 }
 
 impl Book {

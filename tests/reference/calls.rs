@@ -1,4 +1,4 @@
-//! The six calls and their values. Document 01, 'The pair' and 'The six calls'.
+//! The six calls and their values. Document 01, 'The pair' and 'The six calls'; document 02, card 1.
 
 /// What an enter gives.
 #[derive(Clone, Copy)]
@@ -9,6 +9,8 @@ pub struct Entry {
     pub isd: u64,
     pub side: u64,
     pub amount: u64,
+    pub deliverer: u64,
+    pub receiver: u64,
 }
 
 #[derive(Clone, Copy)]

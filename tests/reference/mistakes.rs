@@ -62,6 +62,15 @@ mistakes! {
     AmountOneMore false "10,000,000,001 cents are accepted"
     Day63NotClosed false "the close of day 63 is refused"
     SideNotAlwaysGiven false "kinds 3 and 4 do without a side"
+    // Participants.
+    Code0Accepted false "code 0 is accepted"
+    Code40Refused false "code 40 is refused"
+    Code41Accepted false "code 41 is accepted"
+    CodeCutToByte false "a code is cut to a byte before it is checked"
+    CodeMakesWrong false "a code out of its range makes the line wrong"
+    DelivererNotChecked false "the deliverer may have any code"
+    ReceiverNotChecked false "the receiver may have any code"
+    SameCodeRefused false "the same code at both ends is refused"
     // Rows, each wrong in one place only.
     Category9As8 true "category 9 is booked as 8"
     Category9NotInAll true "category 0 leaves out category 9"
@@ -78,6 +87,9 @@ mistakes! {
     TwelfthDigit false "a field may have 12 digits"
     LeadingZero false "a number may begin with 0"
     UnusedFieldFree false "an unused field may have any number"
+    UnusedCodeFree false "calls other than an enter may have any codes"
+    EnterWithoutCodes false "an enter without codes is taken, with code 1 at both ends"
+    LineWithoutCodes false "calls other than an enter may leave out the zeros of their codes"
     CarriageReturn false "CR may stand before LF"
     LastLineWithoutLf false "a last line without LF is a call"
     EmptyLinesPassedOver false "an empty line is not counted"
@@ -85,6 +97,7 @@ mistakes! {
     FullFileFaulty false "65,536 bytes are too many"
     OneByteOver false "65,537 bytes are not too many"
     NamesWithoutLf false "a names line without LF is right"
+    NamesWithoutCodes false "the names line without codes is right too"
 }
 
 /// The mistake that is planted, if one is.

@@ -21,14 +21,14 @@ use Rattle.book.specs.History.{Event}
 use Rattle.book.specs.Balance.{State, step, run, afterCalls}
 use Rattle.book.specs.Edges.{entry, enterOf, enters, answersOf, example}
 use Rattle.book.specs.Edges.{Case, givesNumbers, givesWhenFull, givesRow, givesRate, Claim, cases}
-use Rattle.book.proofs.Theorems.Sums.{total-replicate, all-map}
+use Rattle.book.proofs.Theorems.Sums.{total-replicate}
 use Rattle.book.proofs.Theorems.Places.{places-all}
 
 -- ---- the book after the enters of ids 1 to n
 
 -- the pair that the enter of id i makes
 abbrev enteredPair : ℕ → Pair
-enteredPair i = entered (terms (entry i 1 1 0 1 100))
+enteredPair i = entered (terms (entry i 1 1 0 1 100 1 2))
 
 -- the pairs with ids 1 to n, and then further ones
 abbrev enteredPairs : ℕ → List Pair → List Pair
@@ -137,35 +137,22 @@ claimed (givesWhenFull calls numbers) h = ap answered (run-entered 1024 0 refl c
 claimed (givesRow calls day category r) h = h
 claimed (givesRate fails total r) h = h
 
+-- The cases of a list, each computed. This is `All Computes`, in a form whose proofs stand one behind the other: a case that
+-- no longer holds is refused at its own `refl`.
+infixr 5 _also_
+data Computed : List Case → Type 0 where
+  noCase : Computed []
+  _also_ : {c : Case} {cs : List Case} → Computes c → Computed cs → Computed (c ∷ cs)
+
+-- so each is what it claims
+claimed-all : (cs : List Case) → Computed cs → All Claim cs
+claimed-all [] noCase = tt
+claimed-all (c ∷ cs) (_also_ h hs) = (claimed c h, claimed-all cs hs)
+
 -- Every case of the list holds.
 pub edges : All Claim cases
 unfolding cases example computed addedFrom cellOf rowAnswer rate answersOf
 edges =
-    all-map Computes Claim claimed cases (
-      refl,
-      (
-        refl,
-        (
-          refl,
-          (
-            refl,
-            (
-              refl,
-              (
-                refl,
-                (
-                  refl,
-                  (
-                    refl,
-                    (
-                      refl,
-                      (refl, (refl, (refl, (refl, (refl, (refl, (refl, (refl, (refl, tt))))))))),
-                    ),
-                  ),
-                ),
-              ),
-            ),
-          ),
-        ),
-      ),
-    )
+    claimed-all cases
+    (refl also refl also refl also refl also refl also refl also refl also refl also refl also refl also refl
+    also refl also refl also refl also refl also refl also refl also refl also refl also refl also refl also noCase)

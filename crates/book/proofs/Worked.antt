@@ -8,9 +8,11 @@ use Rattle.book.specs.Rows.{addedFrom, cellOf, rowOf}
 use Rattle.book.specs.History.{Measure, acceptedCalls, dayOf, closed, pairs, parts, dueOf, cancelledOf, partSettledOf}
 use Rattle.book.specs.History.{settledOn, cancelledBefore, cancelledOn, beforeCancel, beforeClose}
 use Rattle.book.specs.Balance.{afterCalls, bookAfter, acceptedOf, Balances}
+use Rattle.book.specs.Counted.{journal}
 use Rattle.book.specs.Edges.{Claim, givesWhenFull}
 use Rattle.book.specs.Worked.{callsOf, numbersOf, worked, workedToEnd, workedWhenFull, readingsOf, workedReadings}
 use Rattle.book.specs.Worked.{leftSide, rightSide, figuresFor, workedFigures}
+use Rattle.book.specs.Worked.{failsOfEach, workedByDeliverer, workedByReceiver}
 use Rattle.book.proofs.Edges.{computed, claimed}
 
 -- ---- the numbers that come back
@@ -48,3 +50,14 @@ pub sides-balance : (m : Measure) (b : Book) (h : List Call) (day category : ℕ
     → leftSide m b h day category ≡ rightSide m b h day category
     → Balances m (rowOf b) h day category
 sides-balance m b h day category same = same
+
+-- ---- by code
+
+-- each end of each pair
+pub worked-by-deliverer : failsOfEach (λ t. t .deliverer) (callsOf worked) ≡ workedByDeliverer
+unfolding worked workedByDeliverer journal computed
+worked-by-deliverer = refl
+
+pub worked-by-receiver : failsOfEach (λ t. t .receiver) (callsOf worked) ≡ workedByReceiver
+unfolding worked workedByReceiver journal computed
+worked-by-receiver = refl

@@ -111,7 +111,8 @@ journal b (call ∷ calls) =
 abbrev pub CellsAreJournal : Type 0
 CellsAreJournal = (calls : List Call) → bookAfter calls .cells ≡ postAll post (journal freshBook calls) (freshBook .cells)
 
--- Over any selection of pairs that looks at the enter alone, the journal is the sum of the selected pairs' lives.
+-- Over any selection of pairs that looks at the enter alone, at its category or its two codes, the journal is the sum of the
+-- selected pairs' lives.
 abbrev pub JournalIsLives : Type 0
 JournalIsLives =
     (calls : List Call) (f : Cell → ℕ) (selects : Terms → Bool) (day : ℕ)

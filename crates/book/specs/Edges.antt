@@ -1,5 +1,6 @@
--- The edges of document 01, P1 to P12 and that a refused id isn't spent, as entries of one list. Document 01, 'Edges,
--- marked P where proved'; `edges` of proofs/Edges.antt shows every entry. Assumes nothing.
+-- The edges of document 01, P1 to P12 and that a refused id isn't spent, and those of the participants' codes, as entries of
+-- one list; `edges` of proofs/Edges.antt shows every entry. Document 01, 'Edges, marked P where proved'; document 02, card 1.
+-- Assumes nothing.
 use Prim.Native.Nat.{ℕ, zero, suc}
 use mathlib.Core.Path.{_≡_}
 use mathlib.Core.List.{List, [], _∷_, _++_, map, reverse}
@@ -12,24 +13,31 @@ use Rattle.book.specs.Balance.{afterCalls, bookAfter}
 
 -- ---- calls and rows as the paper writes them
 
--- the values of an enter, in the order of a line: id, kind, category, ISD, side, amount
-abbrev pub entry : ℕ → ℕ → ℕ → ℕ → ℕ → ℕ → Entry
-entry id kind category isd side amount = record {
+-- the values of an enter, in the order of a line: id, kind, category, ISD, side, amount, deliverer, receiver
+abbrev pub entry : ℕ → ℕ → ℕ → ℕ → ℕ → ℕ → ℕ → ℕ → Entry
+entry id kind category isd side amount deliverer receiver = record {
   id = id;
   kind = kind;
   category = category;
   isd = isd;
   side = side;
   amount = amount;
+  deliverer = deliverer;
+  receiver = receiver;
 }
 
 -- an enter of these values
-abbrev pub enter : ℕ → ℕ → ℕ → ℕ → ℕ → ℕ → Call
-enter id kind category isd side amount = Call.Enter (entry id kind category isd side amount)
+abbrev pub enter : ℕ → ℕ → ℕ → ℕ → ℕ → ℕ → ℕ → ℕ → Call
+enter id kind category isd side amount deliverer receiver =
+    Call.Enter (entry id kind category isd side amount deliverer receiver)
 
--- an enter of that id: kind 1, category 1, ISD 0, side 1, 100 cents
+-- an enter of that id with these codes at its ends: kind 1, category 1, ISD 0, side 1, 100 cents
+abbrev pub enterBetween : ℕ → ℕ → ℕ → Call
+enterBetween id deliverer receiver = enter id 1 1 0 1 100 deliverer receiver
+
+-- the same from participant 1 to 2
 abbrev pub enterOf : ℕ → Call
-enterOf id = enter id 1 1 0 1 100
+enterOf id = enterBetween id 1 2
 
 -- such enters of ids 1 to n, and then further calls
 unfoldable pub enters : ℕ → List Call → List Call
@@ -72,22 +80,22 @@ Claim (givesRate fails total r) = rate fails total ≡ r
 
 -- ---- the cases
 
--- the calls of document 01's example
+-- the calls of document 01's example, whose codes no paper gives
 unfoldable pub example : List Call
 example =
-    enter 1 1 1 0 1 10000
+    enter 1 1 1 0 1 10000 1 2
     ∷ Call.Settle 1 5000
     ∷ Call.Close
     ∷ Call.Settle 1 2000
     ∷ Call.Close
     ∷ Call.Close
     ∷ Call.Settle 1 3000
-    ∷ enter 2 1 1 1 2 4000
+    ∷ enter 2 1 1 1 2 4000 2 1
     ∷ Call.Settle 2 4000
     ∷ Call.Close
     ∷ []
 
--- P1 to P12, and that a refused id isn't spent
+-- P1 to P12, that a refused id isn't spent, and the codes
 unfoldable pub cases : List Case
 cases =
     -- P1 enter with 1,024 open: 4
@@ -95,9 +103,9 @@ cases =
     -- P2 after one settles in full: accepted
     ∷ givesWhenFull (Call.Settle 700 100 ∷ enterOf 1025 ∷ []) (0 ∷ 0 ∷ [])
     -- P3 amount 10,000,000,000 accepted
-    ∷ givesNumbers (enter 1 1 1 0 1 10000000000 ∷ []) (0 ∷ [])
+    ∷ givesNumbers (enter 1 1 1 0 1 10000000000 1 2 ∷ []) (0 ∷ [])
     -- P4 one more: 2
-    ∷ givesNumbers (enter 1 1 1 0 1 10000000001 ∷ []) (2 ∷ [])
+    ∷ givesNumbers (enter 1 1 1 0 1 10000000001 1 2 ∷ []) (2 ∷ [])
     -- P5 id 65,535 accepted
     ∷ givesNumbers (enterOf 65535 ∷ []) (0 ∷ [])
     -- P6 id equal to the last: 3
@@ -119,6 +127,10 @@ cases =
     ∷ givesRow example 2 0 (row 4 0 2 2 14000 0 6000 8000 0)
     ∷ givesRow example 3 0 (row 4 4 0 0 14000 14000 0 0 0)
     -- A refused id isn't spent: after 2, and after 4.
-    ∷ givesNumbers (enter 1 1 1 0 1 10000000001 ∷ enter 1 1 1 0 1 10000000000 ∷ []) (2 ∷ 0 ∷ [])
+    ∷ givesNumbers (enter 1 1 1 0 1 10000000001 1 2 ∷ enter 1 1 1 0 1 10000000000 1 2 ∷ []) (2 ∷ 0 ∷ [])
     ∷ givesWhenFull (enterOf 1025 ∷ Call.Settle 700 100 ∷ enterOf 1025 ∷ []) (4 ∷ 0 ∷ 0 ∷ [])
+    -- Codes 1 and 40 are accepted at either end, and one code at both; 0 and 41 at either end: 2.
+    ∷ givesNumbers (enterBetween 1 1 40 ∷ enterBetween 2 40 1 ∷ enterBetween 3 40 40 ∷ []) (0 ∷ 0 ∷ 0 ∷ [])
+    ∷ givesNumbers (enterBetween 1 0 2 ∷ enterBetween 1 1 0 ∷ []) (2 ∷ 2 ∷ [])
+    ∷ givesNumbers (enterBetween 1 41 2 ∷ enterBetween 1 1 41 ∷ []) (2 ∷ 2 ∷ [])
     ∷ []

@@ -1,4 +1,4 @@
--- The limits of document 01, each said once. Assumes nothing.
+-- The limits of documents 01 and 02, each said once. Assumes nothing.
 use Prim.Native.Nat.{ℕ, _*_}
 
 -- business days, 0 to 63
@@ -24,3 +24,7 @@ largestId = 65535
 -- in euro cents, of one SI
 abbrev pub largestAmount : ℕ
 largestAmount = 10000000000
+
+-- codes of participants are 1 to this: card 1
+abbrev pub largestCode : ℕ
+largestCode = 40

@@ -1,8 +1,9 @@
--- A pair and what a call changes of it. Document 01, 'The pair' and 'The six calls'. Assumes nothing.
+-- A pair and what a call changes of it. Document 01, 'The pair' and 'The six calls'; document 02, card 1.
+-- Assumes nothing.
 use Prim.Native.Nat.{ℕ, suc, _-_}
 use mathlib.Core.Bool.{Bool, true, false, cond, _&&_, _||_}
 use lib.Dec.{ltb, eqb}
-use Rattle.book.specs.Limits.{dayLimit, categoryCount, largestId, largestAmount}
+use Rattle.book.specs.Limits.{dayLimit, categoryCount, largestId, largestAmount, largestCode}
 use Rattle.book.specs.Sums.{within}
 pub use Rattle.book.specs.declared.pairs.Kind.{Kind}
 pub use Rattle.book.specs.declared.pairs.Side.{Side}
@@ -80,7 +81,7 @@ setHold side on h = cond (eqb side 1) (holdsOf (eqb on 1) (byReceiver h)) (holds
 
 -- ---- the pair as entered
 
--- each value of an enter in its range
+-- each value of an enter in its range; the codes at the two ends may be the same
 abbrev pub inRange : Entry → Bool
 inRange e =
     within 1 largestId (e .id)
@@ -89,6 +90,8 @@ inRange e =
     && ltb (e .isd) dayLimit
     && within 1 2 (e .side)
     && within 1 largestAmount (e .amount)
+    && within 1 largestCode (e .deliverer)
+    && within 1 largestCode (e .receiver)
 
 -- the terms of an accepted enter
 abbrev pub terms : Entry → Terms
@@ -99,6 +102,8 @@ terms e = record {
   category = e .category;
   isd = e .isd;
   side = sideOf (e .side);
+  deliverer = e .deliverer;
+  receiver = e .receiver;
 }
 
 -- At the start there is no hold and no lack.
@@ -107,7 +112,16 @@ entered e = record { terms = e; rest = e .amount; holds = Holds.Neither; lack = 
 
 -- a place that never held a pair
 abbrev pub blank : Pair
-blank = entered (record { amount = 0; id = 0; kind = Kind.AgainstPayment; category = 0; isd = 0; side = Side.Deliverer })
+blank = entered (record {
+  amount = 0;
+  id = 0;
+  kind = Kind.AgainstPayment;
+  category = 0;
+  isd = 0;
+  side = Side.Deliverer;
+  deliverer = 0;
+  receiver = 0;
+})
 
 -- A pair is open until its rest is 0 or it is cancelled.
 abbrev pub isOpen : Pair → Bool

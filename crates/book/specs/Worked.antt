@@ -1,50 +1,53 @@
 -- A list of calls worked by hand from document 01: the number that comes back from each call, what is then read off the
 -- accepted calls, the rows, and both sides of the balance, for each of five days and three categories. The list has
 -- two parts on a day, a part and then a cancel on a day, cancels before, on and after the ISD, late pairs, and refused
--- calls; with the two shorter lists each number that the six calls give comes back. proofs/Worked.antt shows that the
--- definitions give these tables. Document 01, 'A row' and 'Numbers given back'. Assumes nothing.
+-- calls; with the two shorter lists each number that the six calls give comes back. Last stand the fails by deliverer and by
+-- receiver: each code stays with its pair and its end. proofs/Worked.antt shows that the definitions give these tables.
+-- Document 01, 'A row' and 'Numbers given back'; document 02, card 1. Assumes nothing.
 use Prim.Native.Nat.{ℕ, _+_}
 use mathlib.Core.Bool.{Bool, true, false}
 use mathlib.Core.List.{List, [], _∷_, _++_, map}
+use lib.Dec.{eqb}
 use lib.ListN.{replicate}
-use Rattle.book.specs.Pairs.{Entry}
-use Rattle.book.specs.Figures.{Figure}
+use Rattle.book.specs.Pairs.{Entry, Terms}
+use Rattle.book.specs.Figures.{Figure, Cell}
 use Rattle.book.specs.Answers.{Call}
-use Rattle.book.specs.Calls.{Book}
+use Rattle.book.specs.Calls.{Book, freshBook}
 use Rattle.book.specs.Rows.{Row, rowOf}
 use Rattle.book.specs.History.{Event, Measure, number, value, dayOf, closed, pairs, restOf, newlyDue, cancelled, partSettled}
 use Rattle.book.specs.Balance.{inMeasure, previousFails}
-use Rattle.book.specs.Edges.{entry, enter, enterOf, row}
+use Rattle.book.specs.Counted.{postedFor, journal}
+use Rattle.book.specs.Edges.{entry, enter, enterBetween, enterOf, row}
 
--- ---- the pairs: id, kind, category, ISD, side, amount
+-- ---- the pairs: id, kind, category, ISD, side, amount, deliverer, receiver
 
 -- two parts on day 0, and the rest on day 4
 abbrev pub inTwoParts : Entry
-inTwoParts = entry 1 1 1 0 1 1000
+inTwoParts = entry 1 1 1 0 1 1000 1 2
 
 -- cancelled on day 1, before its ISD
 abbrev pub cancelledBeforeIsd : Entry
-cancelledBeforeIsd = entry 2 3 2 2 1 500
+cancelledBeforeIsd = entry 2 3 2 2 1 500 2 1
 
 -- cancelled on day 1, on its ISD
 abbrev pub cancelledOnIsd : Entry
-cancelledOnIsd = entry 3 4 2 1 2 300
+cancelledOnIsd = entry 3 4 2 1 2 300 1 3
 
 -- cancelled on day 2, after its ISD
 abbrev pub cancelledAfterIsd : Entry
-cancelledAfterIsd = entry 4 1 1 0 2 700
+cancelledAfterIsd = entry 4 1 1 0 2 700 2 2
 
 -- a part on day 2, and then cancelled on that day
 abbrev pub partThenCancelled : Entry
-partThenCancelled = entry 5 2 1 2 1 400
+partThenCancelled = entry 5 2 1 2 1 400 40 1
 
 -- entered on day 3, two days late, and settled in full on that day
 abbrev pub lateSettled : Entry
-lateSettled = entry 6 2 2 1 2 600
+lateSettled = entry 6 2 2 1 2 600 3 40
 
 -- entered on day 3, one day late, and cancelled on that day
 abbrev pub lateCancelled : Entry
-lateCancelled = entry 7 3 2 2 2 50
+lateCancelled = entry 7 3 2 2 2 50 40 40
 
 -- ---- the calls
 
@@ -70,8 +73,9 @@ worked =
     ∷ gives (Call.Enter cancelledAfterIsd) 0
     -- id 4 is not above all accepted ids
     ∷ gives (Call.Enter cancelledAfterIsd) 3
-    -- amount 0 is out of its range
-    ∷ gives (enter 5 2 1 2 1 0) 2
+    -- amount 0 is out of its range, and so is receiver 41
+    ∷ gives (enter 5 2 1 2 1 0 40 1) 2
+    ∷ gives (enter 5 2 1 2 1 400 40 41) 2
     -- today, 0, is before the ISD of pair 2
     ∷ gives (Call.Settle 2 100) 6
     -- two parts on a day leave a rest of 500
@@ -128,8 +132,8 @@ unfolding worked
 workedToEnd =
     worked
     ++ replicate 59 (gives Call.Close 0)
-    ++ (gives (enter 8 1 1 63 1 100) 1
-    ∷ gives (enter 0 0 0 64 0 0) 1
+    ++ (gives (enter 8 1 1 63 1 100 1 2) 1
+    ∷ gives (enter 0 0 0 64 0 0 0 0) 1
     ∷ gives (Call.Hold 1 3 1) 1
     ∷ gives (Call.Lack 9 1) 1
     ∷ gives (Call.Settle 9 0) 1
@@ -142,7 +146,8 @@ unfoldable pub workedWhenFull : List Event
 workedWhenFull =
     gives (enterOf 1025) 4
     ∷ gives (enterOf 1024) 3
-    ∷ gives (enter 1024 1 1 0 3 100) 2
+    ∷ gives (enter 1024 1 1 0 3 100 1 2) 2
+    ∷ gives (enterBetween 1024 1 41) 2
     ∷ gives (Call.Cancel 1024) 0
     ∷ gives (enterOf 1025) 0
     ∷ gives (enterOf 1026) 4
@@ -294,3 +299,44 @@ workedFigures =
 -- the figures that the definitions give for the days and categories of a table
 abbrev pub figuresFor : Book → List Call → List DayFigures → List DayFigures
 figuresFor b h table = map (λ x. figuresOf b h (x .day) (x .category)) table
+
+-- ---- the fails of pairs selected by a code
+
+-- the value of fails on both sides, of both SIs together
+abbrev fails : Cell → ℕ
+fails c = c .securities .value + c .cash .value
+
+-- those that the pairs with that code at one end give on each of days 0 to 4
+abbrev pub failsWith : (Terms → ℕ) → List Call → ℕ → List ℕ
+failsWith end calls code =
+    map (λ day. postedFor fails (λ t. eqb (end t) code) day (journal freshBook calls)) (0 ∷ 1 ∷ 2 ∷ 3 ∷ 4 ∷ [])
+
+-- the same for each of codes 1, 2, 3 and 40
+abbrev pub failsOfEach : (Terms → ℕ) → List Call → List (List ℕ)
+failsOfEach end calls = map (failsWith end calls) (1 ∷ 2 ∷ 3 ∷ 40 ∷ [])
+
+-- the fails of the five days by deliverer, by hand
+unfoldable pub workedByDeliverer : List (List ℕ)
+workedByDeliverer =
+    -- 1 delivers pair 1, whose rest of 500 fails on days 0 to 3, and pair 3, which never fails
+    (1000 ∷ 1000 ∷ 1000 ∷ 1000 ∷ 0 ∷ [])
+    -- 2 delivers pair 2, which never fails, and pair 4 (700), which fails on days 0 and 1
+    ∷ (1400 ∷ 1400 ∷ 0 ∷ 0 ∷ 0 ∷ [])
+    -- 3 delivers pair 6 (600), late on days 1 and 2
+    ∷ (0 ∷ 1200 ∷ 1200 ∷ 0 ∷ 0 ∷ [])
+    -- 40 delivers pair 5, which never fails, and pair 7 (50), late on day 2
+    ∷ (0 ∷ 0 ∷ 100 ∷ 0 ∷ 0 ∷ [])
+    ∷ []
+
+-- and by receiver
+unfoldable pub workedByReceiver : List (List ℕ)
+workedByReceiver =
+    -- 1 receives pairs 2 and 5
+    (0 ∷ 0 ∷ 0 ∷ 0 ∷ 0 ∷ [])
+    -- 2 receives pairs 1 and 4
+    ∷ (2400 ∷ 2400 ∷ 1000 ∷ 1000 ∷ 0 ∷ [])
+    -- 3 receives pair 3
+    ∷ (0 ∷ 0 ∷ 0 ∷ 0 ∷ 0 ∷ [])
+    -- 40 receives pairs 6 and 7
+    ∷ (0 ∷ 1200 ∷ 1300 ∷ 0 ∷ 0 ∷ [])
+    ∷ []

@@ -15,6 +15,7 @@ use crate::cells::place;
 use crate::limits::CATEGORIES;
 use crate::limits::DAYS;
 use crate::limits::LARGEST_AMOUNT;
+use crate::limits::LARGEST_CODE;
 use crate::limits::LARGEST_ID;
 use crate::limits::LAST_PLACE;
 use crate::numbers::is_within;
@@ -45,6 +46,8 @@ impl Entry {
             & (self.isd < DAYS)
             & is_within(1, 2, self.side)
             & is_within(1, LARGEST_AMOUNT, self.amount)
+            & is_within(1, LARGEST_CODE, self.deliverer)
+            & is_within(1, LARGEST_CODE, self.receiver)
     }
 
     // The terms of an accepted enter.
@@ -59,6 +62,8 @@ impl Entry {
             category: (self.category % 256) as u8,
             isd: (self.isd % 256) as u8,
             side: Side::of(self.side),
+            deliverer: (self.deliverer % 256) as u8,
+            receiver: (self.receiver % 256) as u8,
         }
     }
 

@@ -1,6 +1,6 @@
 // The settlement fails book: matched pairs of settlement instructions, followed through 64 business days.
-// Document 01 gives the rules; its definitions stand in specs/, and each contract is an equation with one of them.
-pub mod limits; // the limits of document 01
+// Documents 01 and 02 give the rules; their definitions stand in specs/, and each contract is an equation with one of them.
+pub mod limits; // the limits of the papers
 mod numbers; // a range, and numbers of fewer bits
 pub mod pairs; // a pair: its values, holds, lack and rest
 pub mod calls; // the six calls, and what comes back

@@ -1,4 +1,4 @@
-// The limits of document 01, each said once.
+// The limits of documents 01 and 02, each said once.
 
 // Business days, 0 to 63. No call is accepted once all are closed.
 pub const DAYS: u64 = 64;
@@ -20,3 +20,6 @@ pub const LARGEST_ID: u64 = 65535;
 
 // In euro cents, of one SI.
 pub const LARGEST_AMOUNT: u64 = 10000000000;
+
+// Codes of participants are 1 to this.
+pub const LARGEST_CODE: u64 = 40;

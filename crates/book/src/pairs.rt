@@ -1,4 +1,4 @@
-// A pair of matched settlement instructions (SIs). Document 01, 'The pair'.
+// A pair of matched settlement instructions (SIs). Document 01, 'The pair'; document 02, card 1.
 ghost use mathlib.Core.Path.{_≡_};
 ghost use Rattle.book.specs.Pairs.{holdsOf, byDeliverer, byReceiver, anyHold, setHold, lackOf, kindOf, sideOf};
 ghost use Rattle.book.specs.Pairs.{entered, blank, isOpen, hasPartOn, withHold, withLack, ended};
@@ -36,7 +36,8 @@ pub enum Lack {
     Cash,
 }
 
-// A pair as an enter gives it: any numbers, which the enter's refusal looks at.
+// A pair as an enter gives it: any numbers, which the enter's refusal looks at. Deliverer and receiver are the codes of the
+// participants at its two ends, which may be one and the same.
 pub struct Entry {
     pub id: u64,
     pub kind: u64,
@@ -44,6 +45,8 @@ pub struct Entry {
     pub isd: u64,
     pub side: u64,
     pub amount: u64,
+    pub deliverer: u64,
+    pub receiver: u64,
 }
 
 // The same once accepted, in the widths that the ranges allow. ISD is the intended settlement date.
@@ -54,6 +57,8 @@ pub struct Terms {
     pub category: u8,
     pub isd: u8,
     pub side: Side,
+    pub deliverer: u8,
+    pub receiver: u8,
 }
 
 // An accepted pair. Its rest, a term of document 01, is the amount less the parts settled; it is open while that is
@@ -199,6 +204,8 @@ impl Pair {
             category: 0,
             isd: 0,
             side: Side::Deliverer,
+            deliverer: 0,
+            receiver: 0,
         })
     }
 

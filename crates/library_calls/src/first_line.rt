@@ -21,7 +21,9 @@ fn say_first_line(text: &[u8]) {
 // A correct line, one that ends too early, and none.
 pub fn of_three_files() {
     say(b"\nThe reader of lines\n");
-    say_first_line(b"call,id,kind,category,day,side,amount\n6,0,0,0,0,0,0\n");
-    say_first_line(b"call,id,kind,category,day,side,amount\n6,0,0\n");
-    say_first_line(b"call,id,kind,category,day,side,amount\n");
+    say_first_line(
+        b"call,id,kind,category,day,side,amount,deliverer,receiver\n6,0,0,0,0,0,0,0,0\n",
+    );
+    say_first_line(b"call,id,kind,category,day,side,amount,deliverer,receiver\n6,0,0\n");
+    say_first_line(b"call,id,kind,category,day,side,amount,deliverer,receiver\n");
 }

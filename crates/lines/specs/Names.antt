@@ -1,4 +1,4 @@
--- The names line of a call file. Document 01, 'The calls as text'. Assumes nothing.
+-- The names line of a call file. Document 01, 'The calls as text'; document 02, card 1. Assumes nothing.
 use Prim.Native.Nat.{ℕ}
 use mathlib.Core.List.{List, [], _∷_}
 use mathlib.Core.Bool.{Bool, true, false, _&&_}
@@ -7,7 +7,7 @@ use Rattle.lines.specs.Bytes.{bytes}
 
 -- the columns, with LF
 abbrev pub namesLine : List ℕ
-namesLine = bytes "call,id,kind,category,day,side,amount\n"
+namesLine = bytes "call,id,kind,category,day,side,amount,deliverer,receiver\n"
 
 -- the first bytes stand at the start of the others
 abbrev pub startsWith : List ℕ → List ℕ → Bool

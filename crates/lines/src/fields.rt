@@ -1,4 +1,4 @@
-// The columns of a call line, by call: call, id, kind, category, day, side, amount.
+// The columns of a call line, by call: call, id, kind, category, day, side, amount, deliverer, receiver.
 ghost use mathlib.Core.Path.{_≡_};
 ghost use Prim.Native.Nat.{_<_};
 ghost use Rattle.lines.specs.Fields.{columnCount, highestOf, highestIn, lowestIn, entryOf, callOf};
@@ -6,9 +6,9 @@ use book::calls::Call;
 use book::pairs::Entry;
 
 // How many columns a line has.
-pub const COLUMNS: usize = 7;
+pub const COLUMNS: usize = 9;
 // The last of them, from 0.
-pub const LAST_COLUMN: usize = 6;
+pub const LAST_COLUMN: usize = 8;
 // The highest call number.
 pub const HIGHEST_CALL: u64 = 6;
 // The largest number of 11 digits.
@@ -21,12 +21,12 @@ fn highest_of(call: u64) -> [u64; COLUMNS]
     let c = HIGHEST_CALL;
     let n = LARGEST_FIELD;
     match call {
-        1 => [c, n, n, n, n, n, n],
-        2 => [c, n, 0, 0, 0, n, n],
-        3 => [c, n, 0, 0, 0, n, 0],
-        4 => [c, n, 0, 0, 0, 0, n],
-        5 => [c, n, 0, 0, 0, 0, 0],
-        _ => [c, 0, 0, 0, 0, 0, 0],
+        1 => [c, n, n, n, n, n, n, n, n],
+        2 => [c, n, 0, 0, 0, n, n, 0, 0],
+        3 => [c, n, 0, 0, 0, n, 0, 0, 0],
+        4 => [c, n, 0, 0, 0, 0, n, 0, 0],
+        5 => [c, n, 0, 0, 0, 0, 0, 0, 0],
+        _ => [c, 0, 0, 0, 0, 0, 0, 0, 0],
     }
 }
 
@@ -57,6 +57,8 @@ fn entry_of(values: [u64; COLUMNS]) -> Entry
         isd: values[4],
         side: values[5],
         amount: values[6],
+        deliverer: values[7],
+        receiver: values[8],
     }
 }
 

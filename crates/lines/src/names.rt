@@ -3,13 +3,13 @@ ghost use mathlib.Core.Path.{_≡_};
 ghost use Rattle.lines.specs.Names.{hasNames};
 
 // How many bytes it has, with its LF.
-const NAMES_LENGTH: usize = 38;
+const NAMES_LENGTH: usize = 57;
 
 // Whether a file starts with the names line.
 pub fn has_names(text: &[u8]) -> bool
     ensures { λ r. ⌜ r ≡ hasNames (now (text .entry)) ⌝ }
 {
-    let names = b"call,id,kind,category,day,side,amount\n";
+    let names = b"call,id,kind,category,day,side,amount,deliverer,receiver\n";
     if text.len() < NAMES_LENGTH {
         return false;
     }

@@ -1,5 +1,5 @@
 -- Files worked by hand, each with its texts: document 01's example, a file with refused and wrong lines, and faulty files.
--- Assumes nothing.
+-- Document 01, 'The calls as text'; document 02, card 1. Assumes nothing.
 use Prim.Native.Nat.{ℕ}
 use Prim.Native.String.{String}
 use mathlib.Core.Path.{_≡_}
@@ -9,23 +9,27 @@ use Rattle.monitor.specs.Table.{tableText}
 use Rattle.monitor.specs.ReportTable.{Days, reportText}
 use Rattle.monitor.specs.AnswerTable.{answerText}
 
+-- the names line of a call file
+abbrev fileColumns : String
+fileColumns = "call,id,kind,category,day,side,amount,deliverer,receiver\n"
+
 -- ---- document 01's example
 
--- its file
+-- its file, with codes that no paper gives
 abbrev paperFile : List ℕ
 paperFile =
     textOf
-    ("call,id,kind,category,day,side,amount\n"
-    ∷ "1,1,1,1,0,1,10000\n"
-    ∷ "4,1,0,0,0,0,5000\n"
-    ∷ "6,0,0,0,0,0,0\n"
-    ∷ "4,1,0,0,0,0,2000\n"
-    ∷ "6,0,0,0,0,0,0\n"
-    ∷ "6,0,0,0,0,0,0\n"
-    ∷ "4,1,0,0,0,0,3000\n"
-    ∷ "1,2,1,1,1,2,4000\n"
-    ∷ "4,2,0,0,0,0,4000\n"
-    ∷ "6,0,0,0,0,0,0\n"
+    (fileColumns
+    ∷ "1,1,1,1,0,1,10000,1,2\n"
+    ∷ "4,1,0,0,0,0,5000,0,0\n"
+    ∷ "6,0,0,0,0,0,0,0,0\n"
+    ∷ "4,1,0,0,0,0,2000,0,0\n"
+    ∷ "6,0,0,0,0,0,0,0,0\n"
+    ∷ "6,0,0,0,0,0,0,0,0\n"
+    ∷ "4,1,0,0,0,0,3000,0,0\n"
+    ∷ "1,2,1,1,1,2,4000,2,1\n"
+    ∷ "4,2,0,0,0,0,4000,0,0\n"
+    ∷ "6,0,0,0,0,0,0,0,0\n"
     ∷ [])
 
 -- its table, byte for byte
@@ -68,27 +72,31 @@ refusedReports = textOf (reportColumns ∷ "refused\n" ∷ "9\n" ∷ [])
 
 -- ---- refused and wrong lines
 
--- a settle of an id that isn't open; a wrong line, of which two bytes are wrong; an empty one; one without its LF
+-- an enter with a code over 40; a settle of an id that isn't open; a wrong line, of which two bytes are wrong; an empty one;
+-- a cancel with a code; a close of seven columns, as it was before the codes; one without its LF
 abbrev mixedFile : List ℕ
 mixedFile =
     textOf
-    ("call,id,kind,category,day,side,amount\n"
-    ∷ "1,7,3,9,0,1,250\n"
-    ∷ "4,8,0,0,0,0,250\n"
-    ∷ "1,08,3,9,x,1,250\n"
+    (fileColumns
+    ∷ "1,7,3,9,0,1,250,1,2\n"
+    ∷ "1,8,3,9,0,1,250,1,41\n"
+    ∷ "4,8,0,0,0,0,250,0,0\n"
+    ∷ "1,08,3,9,x,1,250,1,2\n"
     ∷ "\n"
+    ∷ "5,7,0,0,0,0,0,0,2\n"
     ∷ "6,0,0,0,0,0,0\n"
-    ∷ "6,0,0,0,0,0,0"
+    ∷ "6,0,0,0,0,0,0,0,0\n"
+    ∷ "6,0,0,0,0,0,0,0,0"
     ∷ [])
 
--- each of the four is refused once, and the next line is read
+-- each of these seven lines is refused once, and the next one is read
 abbrev mixedTable : List ℕ
 mixedTable =
     textOf
     ("day,total_n,settled_n,sec_n,cash_n,total_v,settled_v,sec_v,cash_v,isd_v\n"
     ∷ "0,2,0,2,0,500,0,500,0,500\n"
     ∷ "accepted,refused\n"
-    ∷ "2,4\n"
+    ∷ "2,7\n"
     ∷ [])
 
 -- what came of each line
@@ -97,18 +105,21 @@ mixedAnswers =
     textOf
     ("line,answer,place\n"
     ∷ "1,0,-\n"
-    ∷ "2,5,-\n"
-    ∷ "3,wrong,3\n"
-    ∷ "4,wrong,0\n"
-    ∷ "5,0,-\n"
-    ∷ "6,wrong,13\n"
+    ∷ "2,2,-\n"
+    ∷ "3,5,-\n"
+    ∷ "4,wrong,3\n"
+    ∷ "5,wrong,0\n"
+    ∷ "6,wrong,16\n"
+    ∷ "7,wrong,13\n"
+    ∷ "8,0,-\n"
+    ∷ "9,wrong,17\n"
     ∷ [])
 
 -- ---- files without a call, and faulty ones
 
 -- the names line alone: no day is closed
 abbrev noCalls : List ℕ
-noCalls = textOf ("call,id,kind,category,day,side,amount\n" ∷ [])
+noCalls = textOf (fileColumns ∷ [])
 
 -- its table
 abbrev noCallsTable : List ℕ
@@ -119,12 +130,13 @@ noCallsTable =
     ∷ "0,0\n"
     ∷ [])
 
--- no byte; a names line without its LF, and with CR
+-- no byte; a names line without its LF, with CR, and as it was before the codes
 abbrev faultyFiles : List (List ℕ)
 faultyFiles =
     []
-    ∷ textOf ("call,id,kind,category,day,side,amount" ∷ [])
-    ∷ textOf ("call,id,kind,category,day,side,amount\r\n" ∷ "6,0,0,0,0,0,0\n" ∷ [])
+    ∷ textOf ("call,id,kind,category,day,side,amount,deliverer,receiver" ∷ [])
+    ∷ textOf ("call,id,kind,category,day,side,amount,deliverer,receiver\r\n" ∷ "6,0,0,0,0,0,0,0,0\n" ∷ [])
+    ∷ textOf ("call,id,kind,category,day,side,amount\n" ∷ "6,0,0,0,0,0,0\n" ∷ [])
     ∷ []
 
 -- the same two lines for each
@@ -144,6 +156,6 @@ pub record WorkedHold : Type 0 where
   pub answers : answerText mixedFile ≡ mixedAnswers
   pub empty : tableText noCalls ≡ noCallsTable
   pub unclosed : reportText noCalls Days.AllClosed ≡ refusedReports
-  pub faultyTables : map tableText faultyFiles ≡ fault ∷ fault ∷ fault ∷ []
-  pub faultyReports : map (λ s. reportText s Days.AllClosed) faultyFiles ≡ fault ∷ fault ∷ fault ∷ []
-  pub faultyAnswers : map answerText faultyFiles ≡ fault ∷ fault ∷ fault ∷ []
+  pub faultyTables : map tableText faultyFiles ≡ fault ∷ fault ∷ fault ∷ fault ∷ []
+  pub faultyReports : map (λ s. reportText s Days.AllClosed) faultyFiles ≡ fault ∷ fault ∷ fault ∷ fault ∷ []
+  pub faultyAnswers : map answerText faultyFiles ≡ fault ∷ fault ∷ fault ∷ fault ∷ []

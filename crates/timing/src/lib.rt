@@ -2,13 +2,14 @@
 ghost use Prim.Native.Nat.{_≤_};
 use book::book::Book;
 use book::calls::Answer;
+use book::limits::LARGEST_CODE;
 use book::pairs::Entry;
 use book::rows::RowAnswer;
 
 mod reads; // lines to be read
 mod tables; // the table of a file
 
-// A pair due on day 0; ids side by side differ in category and kind.
+// A pair due on day 0; ids side by side differ in category, kind and deliverer.
 fn entry_of(id: u64) -> Entry {
     Entry {
         id: id,
@@ -17,6 +18,8 @@ fn entry_of(id: u64) -> Entry {
         isd: 0,
         side: 1 + id % 2,
         amount: 1000000 + id % 65536,
+        deliverer: 1 + id % LARGEST_CODE,
+        receiver: 1 + id / LARGEST_CODE % LARGEST_CODE,
     }
 }
 

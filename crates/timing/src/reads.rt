@@ -8,11 +8,11 @@ use std::num::wrapping_add_u64;
 // As many bytes as a call file may have.
 const FILE_LENGTH: usize = 65536;
 // As many as the line below has.
-const LINE_LENGTH: usize = 28;
+const LINE_LENGTH: usize = 34;
 
 // Lines of an enter, as many as a file holds; the last is cut off.
 fn full_file() -> [u8; FILE_LENGTH] {
-    let line = b"1,12345,1,5,20,1,1234567890\n";
+    let line = b"1,12345,1,5,20,1,1234567890,12,34\n";
     let mut text = [0u8; FILE_LENGTH];
     let mut i: usize = 0;
     while i < FILE_LENGTH {
@@ -38,7 +38,8 @@ fn sum_of_call(call: Call) -> u64 {
         Call::Enter(entry) => {
             let first = wrapping_add_u64(wrapping_add_u64(entry.id, entry.kind), entry.category);
             let last = wrapping_add_u64(wrapping_add_u64(entry.isd, entry.side), entry.amount);
-            wrapping_add_u64(first, last)
+            let codes = wrapping_add_u64(entry.deliverer, entry.receiver);
+            wrapping_add_u64(wrapping_add_u64(first, last), codes)
         }
         Call::Hold(id, side, on) => wrapping_add_u64(wrapping_add_u64(id, side), on),
         Call::Lack(id, lack) => wrapping_add_u64(id, lack),

@@ -6,7 +6,7 @@ use mathlib.Core.Path.{_≡_, refl}
 use mathlib.Core.Bool.{Bool, true, false, not, _&&_}
 use lib.Dec.{leb, ltb, eqb}
 use borrow.Author.Tests.{leb-true, ltb-true, eqb-false, not-false}
-use Rattle.book.specs.Limits.{dayLimit, categoryCount, openLimit, largestId, largestAmount}
+use Rattle.book.specs.Limits.{dayLimit, categoryCount, openLimit, largestId, largestAmount, largestCode}
 use Rattle.book.specs.Sums.{within}
 use Rattle.book.specs.Pairs.{Entry, inRange, isOpen}
 use Rattle.book.specs.Answers.{Call, View, refused, isFinished, isSpent, isFull, notOpen, notDue, onHold, wrongPart, answer}
@@ -24,6 +24,8 @@ pub record Ranges (e : Entry) : Type 0 where
   pub category : IsCategory (e .category)
   pub isd : e .isd < dayLimit
   pub amount : (1 ≤ e .amount) × (e .amount ≤ largestAmount)
+  pub deliverer : (1 ≤ e .deliverer) × (e .deliverer ≤ largestCode)
+  pub receiver : (1 ≤ e .receiver) × (e .receiver ≤ largestCode)
 
 -- an enter: its id is above all accepted ones, and fewer than 1,024 pairs are open
 pub record EnterAllowed (v : View) (e : Entry) : Type 0 where
@@ -66,13 +68,16 @@ from-within : (low high n : ℕ) → within low high n ≡ true → (low ≤ n) 
 from-within low high n h =
     let b = and-true (leb low n) (leb n high) h in (leb-true low n (b .0), leb-true n high (b .1))
 
--- an enter that passes the test of its ranges has each value in its range
+-- An enter that passes the test of its ranges has each value in its range. The test has eight parts, each inside the one
+-- behind it, and so a part is at most eight deep.
 pub in-ranges : (e : Entry) → inRange e ≡ true → Ranges e
 in-ranges e h = record {
-  id = from-within 1 largestId (e .id) (search (and-left, and-right));
-  category = from-within 1 categoryCount (e .category) (search (and-left, and-right));
-  isd = ltb-true (e .isd) dayLimit (search (and-left, and-right));
-  amount = from-within 1 largestAmount (e .amount) (search (and-left, and-right));
+  id = from-within 1 largestId (e .id) (search (and-left, and-right) depth 8);
+  category = from-within 1 categoryCount (e .category) (search (and-left, and-right) depth 8);
+  isd = ltb-true (e .isd) dayLimit (search (and-left, and-right) depth 8);
+  amount = from-within 1 largestAmount (e .amount) (search (and-left, and-right) depth 8);
+  deliverer = from-within 1 largestCode (e .deliverer) (search (and-left, and-right) depth 8);
+  receiver = from-within 1 largestCode (e .receiver) (search (and-left, and-right) depth 8);
 }
 
 -- an accepted enter passes the test of its ranges

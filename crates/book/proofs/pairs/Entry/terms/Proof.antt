@@ -10,12 +10,16 @@ use Rattle.book.proofs.pairs.Entry.terms.Tie as tie
 
 returns : tie.Need-returns
 returns c =
-    let e = c .before .before .before .before .before .args .self in
-    let ranges = in-ranges e (c .before .before .before .before .before .pre) in
+    let start = c .before .before .before .before .before .before .before in
+    let e = start .args .self in
+    let ranges = in-ranges e (start .pre) in
     let id : e .id % 65536 ≡ e .id = omega arith in
     let category : e .category % 256 ≡ e .category = omega arith in
     let isd : e .isd % 256 ≡ e .isd = omega arith in
-    rw (id, category, isd, c .before .before .before .of .ensures, c .of2 .ensures)
+    let deliverer : e .deliverer % 256 ≡ e .deliverer = omega arith in
+    let receiver : e .receiver % 256 ≡ e .receiver = omega arith in
+    let after-side = c .before .before in
+    rw (id, category, isd, deliverer, receiver, after-side .before .before .before .of .ensures, after-side .of2 .ensures)
 
 pub terms-spec : {M : Type 1} → statement M
 terms-spec =
@@ -26,4 +30,6 @@ terms-spec =
     (λ c. search needs)
     (λ c. search needs)
     (λ c κs. search needs)
+    (λ c. search needs)
+    (λ c. search needs)
     returns)
