@@ -1,7 +1,8 @@
-// Times the proved calls, the proved reader and the proved table against plain Rust, in one run, and measures the stack that
-// they need.
+// Times the proved calls, the proved reader, the proved table and the proved lists against plain Rust, in one run, and
+// measures the stack that they need.
 mod book;
 mod lines;
+mod list;
 mod table;
 
 use book::{Book, Entry, LARGEST_CODE, PAIRS};
@@ -10,6 +11,7 @@ use std::hint::black_box;
 use std::time::Instant;
 
 const TABLE_ROOM: usize = 8192;
+const LIST_ROOM: usize = 8192;
 
 // Rattle passes a lent slice as its pointer and its length.
 extern "C" {
@@ -20,6 +22,7 @@ extern "C" {
     fn replaces(times: u64) -> u64;
     fn reads(times: u64) -> u64;
     fn table_of(text: *const u8, length: usize, buffer: *mut [u8; TABLE_ROOM]) -> usize;
+    fn lists_of(text: *const u8, length: usize, buffer: *mut [u8; LIST_ROOM]) -> usize;
 }
 
 // ---- calls
@@ -126,6 +129,19 @@ fn rust_table(file: &[u8]) -> Vec<u8> {
     text
 }
 
+fn proved_lists(file: &[u8]) -> Vec<u8> {
+    let mut buffer = [0; LIST_ROOM];
+    let count = unsafe { lists_of(file.as_ptr(), file.len(), &mut buffer) };
+    buffer[..count].to_vec()
+}
+
+#[inline(never)]
+fn rust_lists(file: &[u8]) -> Vec<u8> {
+    let mut text = Vec::with_capacity(LIST_ROOM);
+    list::lists(file, &mut text);
+    text
+}
+
 // The names line of a file and so many of its lines.
 fn first_lines(file: &[u8], lines: usize) -> &[u8] {
     let length = file.split_inclusive(|&byte| byte == b'\n').take(1 + lines).map(<[u8]>::len).sum();
@@ -191,6 +207,7 @@ fn main() {
     let path = std::env::args().nth(1).expect("a call file");
     let file = std::fs::read(path).expect("a call file");
     assert_eq!(proved_table(&file), rust_table(&file), "both write the same table");
+    assert_eq!(proved_lists(&file), rust_lists(&file), "both write the same lists");
     println!("{:<38}{:>12}{:>12}{:>8}{:>11}", "", "proved", "Rust", "ratio", "stack");
     print_line("close of 1,024 failing pairs", 64, 50, |n| unsafe { closes(n) }, rust_closes);
     print_line("hold of the last of 1,024 pairs", 1, 3000, |n| unsafe { holds(n) }, rust_holds);
@@ -204,4 +221,6 @@ fn main() {
         let name = format!("table of {} lines, {} bytes", lines * part / 6, begin.len());
         print_line(&name, 1, 20, |n| repeated(n, || proved_table(begin)), |n| repeated(n, || rust_table(begin)));
     }
+    let name = format!("lists of {lines} lines, {} bytes", file.len());
+    print_line(&name, 1, 20, |n| repeated(n, || proved_lists(&file)), |n| repeated(n, || rust_lists(&file)));
 }

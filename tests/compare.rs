@@ -1,7 +1,7 @@
 //! A file through the proved programs and the reference: the texts of both, and the balance.
 
 use crate::balance::{unbalanced, RowFigures};
-use crate::programs::Text;
+use crate::programs::{Days, Text};
 use crate::reference::book::{Figure, Row};
 use crate::reference::calls::Call;
 use crate::reference::lines::{lines_of, Line};
@@ -11,7 +11,10 @@ use crate::reference::texts::{replay, Answered, Replayed};
 /// Of a file up to so many bytes each beginning is tried, for the smallest one.
 const TRIED_BY_BYTES: usize = 4096;
 
-/// A file to compare: its name, its bytes, and a run of days to ask reports for.
+/// Reports are asked for each closed day, since the balance needs them; lists for days so far apart, to be done sooner.
+const LISTED_DAYS_APART: usize = 4;
+
+/// A file to compare: its name, its bytes, and a run of days to ask reports and lists for.
 pub struct Sample {
     pub name: String,
     pub file: Vec<u8>,
@@ -31,10 +34,14 @@ pub enum Difference {
     Balance(String),
 }
 
-/// Table, answers, reports over all closed days, over a run of days, and of each closed day.
+/// Table and answers; reports and lists over all closed days, over a run of days, and of closed days by themselves.
 fn texts_of(sample: &Sample, closed: usize) -> Vec<Text> {
-    let mut texts = vec![Text::Table, Text::Answers, Text::Reports, Text::ReportsOver(sample.run.clone())];
-    texts.extend((0..closed).map(Text::ReportsOf));
+    let runs = [Days::AllClosed, Days::Run(sample.run.clone())];
+    let mut texts = vec![Text::Table, Text::Answers];
+    texts.extend(runs.iter().cloned().map(Text::Reports));
+    texts.extend(runs.iter().cloned().map(Text::Lists));
+    texts.extend((0..closed).map(|day| Text::Reports(Days::One(day))));
+    texts.extend((0..closed).step_by(LISTED_DAYS_APART).map(|day| Text::Lists(Days::One(day))));
     texts
 }
 
@@ -79,11 +86,11 @@ fn balance_of_programs(file: &[u8], written: &[(Text, Vec<u8>)]) -> Option<Strin
         match text {
             Text::Answers if program.starts_with(b"fault") => return None,
             Text::Answers => accepted = accepted_lines(program),
-            Text::ReportsOf(day) => match rows_in(program) {
+            Text::Reports(Days::One(day)) => match rows_in(program) {
                 Some(of_day) => rows.push(of_day),
                 None => return Some(format!("the reports of day {day} are not ten lines of figures")),
             },
-            Text::Table | Text::Reports | Text::ReportsOver(_) => {}
+            Text::Table | Text::Reports(_) | Text::Lists(_) => {}
         }
     }
     let lines = lines_of(file, Planted::NONE);

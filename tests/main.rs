@@ -157,12 +157,13 @@ fn plant_all(compared: &[Compared]) -> usize {
     missed
 }
 
-/// How many files find a mistake by their texts, and how many by the balance.
+/// How many files find a mistake by their texts, and how many by the balance, where it has to be found by that.
 fn find(declared: &Declared, compared: &[Compared]) -> (usize, usize) {
     let mut counts = (0, 0);
     for file in compared {
         let replayed = replay(&file.sample.file, Planted(Some(declared.mistake)));
         counts.0 += usize::from(file.parts_from(replayed.as_ref()));
+        let replayed = replayed.filter(|_| declared.by_balance);
         counts.1 += usize::from(replayed.is_some_and(|replayed| balance_of_reference(&replayed).is_some()));
     }
     counts

@@ -1,31 +1,57 @@
 //! The texts that the proved programs write of a file, and what the reference says that they are.
 
-use crate::reference::texts::{answers, day_of, reports, table, Replayed};
+use crate::reference::texts::{answers, day_of, lists, reports, table, Replayed};
 use std::io::Write;
 use std::path::PathBuf;
 use std::process::{Command, Stdio};
 
-/// A text: the table, the answers, and reports over all closed days, over a run of days, or of one day.
+/// A text: the table, the answers, and the reports and the lists of participants over days.
 #[derive(Clone)]
 pub enum Text {
     Table,
     Answers,
-    Reports,
-    ReportsOver([String; 2]),
-    ReportsOf(usize),
+    Reports(Days),
+    Lists(Days),
+}
+
+/// All closed days, a run of days as it is given to a program, or one day.
+#[derive(Clone)]
+pub enum Days {
+    AllClosed,
+    Run([String; 2]),
+    One(usize),
+}
+
+impl Days {
+    /// The arguments of a program that say which days.
+    fn arguments(&self) -> Vec<String> {
+        match self {
+            Days::AllClosed => Vec::new(),
+            Days::Run(run) => run.to_vec(),
+            Days::One(day) => vec![day.to_string(); 2],
+        }
+    }
+
+    /// The first and the last day, where they are said.
+    fn run(&self) -> Option<(u64, u64)> {
+        match self {
+            Days::AllClosed => None,
+            Days::Run([first, last]) => Some((day_of(first), day_of(last))),
+            Days::One(day) => Some((*day as u64, *day as u64)),
+        }
+    }
 }
 
 impl Text {
     /// The program that writes it, and its arguments.
     pub fn command(&self) -> Vec<String> {
-        let words: &[&str] = match self {
-            Text::Table => &["table"],
-            Text::Answers => &["answers"],
-            Text::Reports => &["report"],
-            Text::ReportsOver([first, last]) => &["report", first, last],
-            Text::ReportsOf(day) => &["report", &day.to_string(), &day.to_string()],
+        let (program, arguments) = match self {
+            Text::Table => ("table", Vec::new()),
+            Text::Answers => ("answers", Vec::new()),
+            Text::Reports(days) => ("report", days.arguments()),
+            Text::Lists(days) => ("worst", days.arguments()),
         };
-        words.iter().map(|word| word.to_string()).collect()
+        [vec![program.to_string()], arguments].concat()
     }
 
     /// The text of the proved program. A message on standard error, or another status than 0, makes it a wrong one.
@@ -51,9 +77,8 @@ impl Text {
         match self {
             Text::Table => table(replayed),
             Text::Answers => answers(replayed),
-            Text::Reports => reports(replayed, None),
-            Text::ReportsOver([first, last]) => reports(replayed, Some((day_of(first), day_of(last)))),
-            Text::ReportsOf(day) => reports(replayed, Some((*day as u64, *day as u64))),
+            Text::Reports(days) => reports(replayed, days.run()),
+            Text::Lists(days) => lists(replayed, days.run()),
         }
         .into_bytes()
     }

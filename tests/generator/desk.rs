@@ -45,11 +45,23 @@ impl Desk {
         self.enter_kind(kind, isd, amount);
     }
 
-    /// An enter of the next id.
     pub fn enter_kind(&mut self, kind: u64, isd: u64, amount: u64) {
-        self.last_id += 1;
-        self.offer(self.last_id, kind, isd, amount);
-        self.open.push(Open { id: self.last_id, isd, rest: amount });
+        let entry = self.entry(self.last_id + 1, kind, isd, amount);
+        self.follow(entry);
+    }
+
+    /// An enter of the next id from one participant to another.
+    pub fn enter_between(&mut self, [deliverer, receiver]: [u64; 2], isd: u64, amount: u64) {
+        let kind = self.random.between(1, 4);
+        let entry = Entry { deliverer, receiver, ..self.entry(self.last_id + 1, kind, isd, amount) };
+        self.follow(entry);
+    }
+
+    /// An enter of the next id, which is thought to be accepted.
+    fn follow(&mut self, entry: Entry) {
+        self.call(Call::Enter(entry));
+        self.last_id = entry.id;
+        self.open.push(Open { id: entry.id, isd: entry.isd, rest: entry.amount });
     }
 
     /// An enter of any id, which is not followed.

@@ -24,6 +24,14 @@ pub struct Row {
     pub isd_value: u64,
 }
 
+/// What a pair gives to the figures of a closed day.
+pub struct Share {
+    pub entry: Entry,
+    /// Whether the pair was matched later, so that its enter changed the day when it was closed already.
+    pub charged_late: bool,
+    pub row: Row,
+}
+
 /// An accepted enter, the day it fell on, and the accepted calls of its id since, each with its day.
 struct Life {
     entry: Entry,
@@ -343,26 +351,35 @@ impl Book {
         }
     }
 
-    // ---- rows
+    // ---- closed days
 
-    /// The rows of the closed days, by category 0 (all) to 9.
-    pub fn rows(&self) -> Vec<[Row; 10]> {
-        let closed = self.planted.right_or(Mistake::LastRowNotGiven, self.today, self.today.saturating_sub(1));
-        (0..closed).map(|day| self.rows_of(day)).collect()
+    /// How many days are closed.
+    pub fn closed(&self) -> u64 {
+        self.planted.right_or(Mistake::LastRowNotGiven, self.today, self.today.saturating_sub(1))
     }
 
-    fn rows_of(&self, day: u64) -> [Row; 10] {
-        let mut rows = [Row::default(); 10];
-        for life in &self.lives {
-            let share = self.spoilt(self.share(life, day), day);
-            let category = life.entry.category as usize;
-            rows[self.planted.right_or(Mistake::Category9As8, category, category.min(8))] += share;
-            if category < 9 || !self.planted.has(Mistake::Category9NotInAll) {
-                rows[0] += share;
-            }
+    /// What each pair gives on a closed day.
+    pub fn shares(&self, day: u64) -> Vec<Share> {
+        let share_of = |life: &Life| Share {
+            entry: life.entry,
+            charged_late: day < life.matched,
+            row: self.spoilt(self.share(life, day), day),
+        };
+        self.lives.iter().map(share_of).collect()
+    }
+}
+
+/// The rows of a day, by category 0 (all) to 9.
+pub fn rows_of(shares: &[Share], planted: Planted) -> [Row; 10] {
+    let mut rows = [Row::default(); 10];
+    for Share { entry, row, .. } in shares {
+        let category = entry.category as usize;
+        rows[planted.right_or(Mistake::Category9As8, category, category.min(8))] += *row;
+        if category < 9 || !planted.has(Mistake::Category9NotInAll) {
+            rows[0] += *row;
         }
-        rows
     }
+    rows
 }
 
 /// Both SIs to securities, or to cash.

@@ -28,7 +28,7 @@ pub fn report(rows: &[Row], planted: Planted) -> Report {
 }
 
 /// Fails over total.
-fn rate(fails: u64, total: u64, planted: Planted) -> u64 {
+pub fn rate(fails: u64, total: u64, planted: Planted) -> u64 {
     if total == 0 {
         return 0;
     }

@@ -8,15 +8,16 @@ use mathlib.Core.Bool.{false, not}
 use mathlib.Core.List.{List, [], _∷_, _++_, map, reverse}
 use lib.ListN.{length, set, replicate, length-replicate}
 use borrow.Author.Tests.{le-leb, lt-leb}
-use Rattle.book.specs.Limits.{cellCount, openLimit, largestId}
-use Rattle.book.specs.Sums.{total, All}
-use Rattle.book.specs.Pairs.{Pair, terms, entered, blank, isOpen}
 use Rattle.rates.specs.Rate.{rate}
+use Rattle.book.specs.Limits.{cellCount, openLimit, largestId, summaryCount}
+use Rattle.book.specs.Sums.{total, All, addedFrom}
+use Rattle.book.specs.Pairs.{Pair, terms, entered, blank, isOpen}
 use Rattle.book.specs.Figures.{none, lateFrom, failPosting, failPostings, place, post}
+use Rattle.book.specs.Summaries.{noSummary}
 use Rattle.book.specs.Answers.{Call, isFull, answer}
 use Rattle.book.specs.Calls.{Book, places, firstPlace, openCount, viewOf, answerOf, freshBook}
 use Rattle.book.specs.Calls.{postings, pairsAfter, afterAccepted, after}
-use Rattle.book.specs.Rows.{addedFrom, cellOf, rowAnswer}
+use Rattle.book.specs.Rows.{cellOf, rowAnswer}
 use Rattle.book.specs.History.{Event}
 use Rattle.book.specs.Balance.{State, step, run, afterCalls}
 use Rattle.book.specs.Edges.{entry, enterOf, enters, answersOf, example}
@@ -42,7 +43,13 @@ enteredHistory (suc n) = record { call = enterOf (suc n); answer = 0 } ∷ enter
 
 -- the book after them, with k places left
 abbrev enteredBook : ℕ → ℕ → Book
-enteredBook n k = record { pairs = enteredPairs n (replicate k blank); cells = replicate cellCount none; today = 0; «last_id» = n }
+enteredBook n k = record {
+  pairs = enteredPairs n (replicate k blank);
+  cells = replicate cellCount none;
+  summaries = replicate summaryCount noSummary;
+  today = 0;
+  «last_id» = n;
+}
 
 -- the book and its history
 abbrev enteredState : ℕ → ℕ → State

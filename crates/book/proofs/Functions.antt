@@ -1,9 +1,10 @@
 -- What the proofs of the functions share, to be read from top to bottom.
 
--- what a branch says of a test, and what a call hands back, part by part
+-- what a branch says of a test; cells and summaries together; and what a call hands back, part by part
 pub mod Tested
+pub mod Ledger
 pub mod Handed
--- cells added up by a loop
+-- cells or summaries added up by a loop
 pub mod Added
 -- a search for a pair, and what an answer finds there
 pub mod Search

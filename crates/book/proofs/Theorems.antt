@@ -17,9 +17,11 @@ pub mod Places
 pub mod Mirror
 pub mod Run
 pub mod Ties
--- its rows are the sums of the lives
+-- its rows and its participants' summaries are the sums of the lives
 pub mod Journal
+pub mod Arrays
 pub mod Cells
+pub mod Participants
 pub mod Bounds
 pub mod Posted
 pub mod Counting

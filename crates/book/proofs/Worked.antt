@@ -2,9 +2,11 @@
 use Prim.Native.Nat.{ℕ}
 use mathlib.Core.Path.{_≡_, refl}
 use mathlib.Core.List.{List, reverse}
+use Rattle.book.specs.Sums.{addedFrom}
+use Rattle.book.specs.Summaries.{summaryPlace, postSummaries}
 use Rattle.book.specs.Answers.{Call}
 use Rattle.book.specs.Calls.{Book}
-use Rattle.book.specs.Rows.{addedFrom, cellOf, rowOf}
+use Rattle.book.specs.Rows.{cellOf, rowOf}
 use Rattle.book.specs.History.{Measure, acceptedCalls, dayOf, closed, pairs, parts, dueOf, cancelledOf, partSettledOf}
 use Rattle.book.specs.History.{settledOn, cancelledBefore, cancelledOn, beforeCancel, beforeClose}
 use Rattle.book.specs.Balance.{afterCalls, bookAfter, acceptedOf, Balances}
@@ -12,7 +14,7 @@ use Rattle.book.specs.Counted.{journal}
 use Rattle.book.specs.Edges.{Claim, givesWhenFull}
 use Rattle.book.specs.Worked.{callsOf, numbersOf, worked, workedToEnd, workedWhenFull, readingsOf, workedReadings}
 use Rattle.book.specs.Worked.{leftSide, rightSide, figuresFor, workedFigures}
-use Rattle.book.specs.Worked.{failsOfEach, workedByDeliverer, workedByReceiver}
+use Rattle.book.specs.Worked.{failsOfEach, workedByDeliverer, workedByReceiver, summariesOfEach, workedSummaries}
 use Rattle.book.proofs.Edges.{computed, claimed}
 
 -- ---- the numbers that come back
@@ -61,3 +63,8 @@ worked-by-deliverer = refl
 pub worked-by-receiver : failsOfEach (λ t. t .receiver) (callsOf worked) ≡ workedByReceiver
 unfolding worked workedByReceiver journal computed
 worked-by-receiver = refl
+
+-- the summaries of each participant
+pub worked-summaries : summariesOfEach (bookAfter (callsOf worked)) ≡ workedSummaries
+unfolding worked workedSummaries computed summaryPlace postSummaries
+worked-summaries = refl

@@ -1,15 +1,15 @@
--- What a call makes of one place: the contracts of the functions that the six calls hand a pair and a cell to, and of those
--- that make a call in a book that the caller keeps. The contracts of the calls do not mention them. Assumes nothing.
+-- What a call makes of one place: the contracts of the functions that the six calls hand a pair and its figures to, and of
+-- those that make a call in a book that the caller keeps. The contracts of the calls do not mention them. Assumes nothing.
 use Prim.Native.Nat.{ℕ, suc, _-_}
 use mathlib.Core.Path.{_≡_}
 use mathlib.Core.Bool.{Bool, true, cond, not}
 use mathlib.Core.List.{List}
-use lib.Dec.{eqb}
 use Rattle.book.specs.Limits.{openLimit}
 use Rattle.book.specs.Sums.{only}
 use Rattle.book.specs.Pairs.{Entry, Terms, Pair, blank, isOpen, terms, entered, withHold, withLack, withPart, ended}
-use Rattle.book.specs.SideOfFail.{sidesWhenLate}
-use Rattle.book.specs.Figures.{Cell, failFigures, addCell, lateFrom, partPosting, failing, failPosting, post, postAll}
+use Rattle.book.specs.Figures.{Posting, lateFrom, partPosting, post, postAll}
+use Rattle.book.specs.Summaries.{postSummaries}
+use Rattle.book.specs.DayFigures.{DayFigures, addFigures}
 use Rattle.book.specs.Answers.{Call, View, answerNumber, isAccepted, answer}
 use Rattle.book.specs.Calls.{Book, isOpenPair, lastIdAfter, todayAfter}
 use Rattle.book.specs.declared.changing.Changed.{Changed}
@@ -39,12 +39,12 @@ pub record Changes (today : ℕ) (p : Pair) (call : Call) (r : Changed) : Type 0
   pub number : answerNumber (r .answer) ≡ answer (atFound today p) call
   pub pair : r .pair ≡ cond (isAccepted (answer (atFound today p) call)) (pairAfter today p call) p
 
--- the same for a settle, with today's cell of the pair's category
-pub record Settles (today id part : ℕ) (p : Pair) (c : Cell) (r : Settled) : Type 0 where
+-- the same for a settle, with today's figures that the pair is counted in
+pub record Settles (today id part : ℕ) (p : Pair) (d : DayFigures) (r : Settled) : Type 0 where
   pub number : answerNumber (r .answer) ≡ answer (atFound today p) (Call.Settle id part)
   pub pair : r .pair ≡ cond (isAccepted (answer (atFound today p) (Call.Settle id part))) (withPart today part p) p
-  pub cell : r .cell
-      ≡ cond (isAccepted (answer (atFound today p) (Call.Settle id part))) (addCell c (partPosting today part p .figures)) c
+  pub figures : r .figures
+      ≡ cond (isAccepted (answer (atFound today p) (Call.Settle id part))) (addFigures d (partPosting today part p .figures)) d
 
 -- ---- enter, at the place where the search for a free one ended
 
@@ -59,15 +59,16 @@ pub record Enters (today last : ℕ) (p : Pair) (e : Entry) (r : Entered) : Type
   pub highest : r .«last_id» ≡ cond (isAccepted (answer (atFree today last p) (Call.Enter e))) (e .id) last
   pub late : r .«late_from» ≡ cond (isAccepted (answer (atFree today last p) (Call.Enter e))) (e .isd) today
 
--- the cells once the days from `day` to yesterday have gained the fail of a late pair
-abbrev pub lateCells : ℕ → ℕ → Terms → List Cell → List Cell
-lateCells today day e cells = postAll post (lateFrom (today - day) day e) cells
+-- the postings of a late pair, from `day` to yesterday
+abbrev pub latePostingsFrom : ℕ → ℕ → Terms → List Posting
+latePostingsFrom today day t = lateFrom (today - day) day t
 
--- the book with these
-abbrev pub withLate : Entry → ℕ → Book → Book
-withLate e from b = record {
+-- the book once these are taken
+abbrev pub withLate : Terms → ℕ → Book → Book
+withLate t from b = record {
   pairs = b .pairs;
-  cells = lateCells (b .today) from (terms e) (b .cells);
+  cells = postAll post (latePostingsFrom (b .today) from t) (b .cells);
+  summaries = postAll postSummaries (latePostingsFrom (b .today) from t) (b .summaries);
   today = b .today;
   «last_id» = b .«last_id»;
 }
@@ -83,10 +84,6 @@ pub record Closes (today : ℕ) (r : Closing) : Type 0 where
   pub number : answerNumber (r .answer) ≡ answer (onDay today) Call.Close
   pub places : r .places ≡ only (isAccepted (answer (onDay today) Call.Close)) openLimit
   pub today-after : r .today ≡ cond (isAccepted (answer (onDay today) Call.Close)) (suc today) today
-
--- the cell of today and the pair's category, with the pair's fail where it fails
-abbrev pub withFail : ℕ → Pair → Cell → Cell
-withFail today p cell = cond (failing today p) (addCell cell (failPosting today p .figures)) cell
 
 -- ---- any call, at the place where the search for what it looks for ended
 
@@ -114,14 +111,14 @@ atPlace today last p = record {
   pair = λ id. cond (isOpenPair id p) p blank;
 }
 
--- today's cell of p's category after an accepted call, the fails of a close aside
-abbrev pub cellAfter : ℕ → Pair → Cell → Call → Cell
-cellAfter today p c (Call.Enter e) = c
-cellAfter today p c (Call.Hold id side on) = c
-cellAfter today p c (Call.Lack id lack) = c
-cellAfter today p c (Call.Settle id part) = addCell c (partPosting today part p .figures)
-cellAfter today p c (Call.Cancel id) = c
-cellAfter today p c Call.Close = c
+-- today's figures that p is counted in after an accepted call, the fails of a close aside
+abbrev pub figuresAfter : ℕ → Pair → DayFigures → Call → DayFigures
+figuresAfter today p d (Call.Enter e) = d
+figuresAfter today p d (Call.Hold id side on) = d
+figuresAfter today p d (Call.Lack id lack) = d
+figuresAfter today p d (Call.Settle id part) = addFigures d (partPosting today part p .figures)
+figuresAfter today p d (Call.Cancel id) = d
+figuresAfter today p d Call.Close = d
 
 -- the first day that an accepted call counts a late pair's fail on, today where it counts none
 abbrev pub firstLate : ℕ → Call → ℕ
@@ -141,19 +138,13 @@ placesClosed (Call.Settle id part) = 0
 placesClosed (Call.Cancel id) = 0
 placesClosed Call.Close = openLimit
 
--- what is left: the pair, the cell, the highest id accepted, the day, which fails are to be counted, and the number;
+-- what is left: the pair, the figures, the highest id accepted, the day, which fails are to be counted, and the number;
 -- refused, all is the same and no fail is to be counted
-pub record Leaves (today last : ℕ) (p : Pair) (c : Cell) (call : Call) (r : PlaceAfter) : Type 0 where
+pub record Leaves (today last : ℕ) (p : Pair) (d : DayFigures) (call : Call) (r : PlaceAfter) : Type 0 where
   pub number : answerNumber (r .answer) ≡ answer (atPlace today last p) call
   pub pair : r .pair ≡ cond (isAccepted (answer (atPlace today last p) call)) (pairAfter today p call) p
-  pub cell : r .cell ≡ cond (isAccepted (answer (atPlace today last p) call)) (cellAfter today p c call) c
+  pub figures : r .figures ≡ cond (isAccepted (answer (atPlace today last p) call)) (figuresAfter today p d call) d
   pub highest : r .«last_id» ≡ cond (isAccepted (answer (atPlace today last p) call)) (lastIdAfter last call) last
   pub today-after : r .today ≡ cond (isAccepted (answer (atPlace today last p) call)) (todayAfter today call) today
   pub late : r .«late_from» ≡ cond (isAccepted (answer (atPlace today last p) call)) (firstLate today call) today
   pub places : r .places ≡ only (isAccepted (answer (atPlace today last p) call)) (placesClosed call)
-
--- the cell of a day and the category of a late pair, with the pair's fail on that day
-abbrev pub withLateFail : ℕ → Pair → Cell → Cell
-withLateFail day p cell =
-    addCell cell
-    (failFigures (sidesWhenLate (p .terms .kind) (p .terms .side)) (p .terms .amount) (eqb day (p .terms .isd)))

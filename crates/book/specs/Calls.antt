@@ -1,13 +1,15 @@
--- The book, and what it holds after each of the six calls. Document 01, 'The six calls' and 'Form'. Assumes nothing.
+-- The book, and what it holds after each of the six calls. Document 01, 'The six calls' and 'Form'; document 02, card 2, for
+-- the summaries. Assumes nothing.
 use Prim.Native.Nat.{ℕ, zero, suc}
 use mathlib.Core.Bool.{Bool, cond, not, _&&_}
 use mathlib.Core.List.{List, [], _∷_}
 use lib.Dec.{eqb}
 use lib.ListN.{getD, set, replicate}
-use Rattle.book.specs.Limits.{cellCount, openLimit}
+use Rattle.book.specs.Limits.{cellCount, openLimit, summaryCount}
 use Rattle.book.specs.Sums.{only, total}
 use Rattle.book.specs.Pairs.{Pair, blank, isOpen, terms, entered, withHold, withLack, withPart, ended}
 use Rattle.book.specs.Figures.{none, Posting, latePostings, partPosting, failPostings, post, postAll}
+use Rattle.book.specs.Summaries.{noSummary, postSummaries}
 use Rattle.book.specs.Answers.{Call, View, answer, isAccepted}
 pub use Rattle.book.specs.declared.book.Book.{Book}
 
@@ -101,6 +103,7 @@ unfoldable pub afterAccepted : Book → Call → Book
 afterAccepted b call = record {
   pairs = pairsAfter b call;
   cells = postAll post (postings b call) (b .cells);
+  summaries = postAll postSummaries (postings b call) (b .summaries);
   today = todayAfter (b .today) call;
   «last_id» = lastIdAfter (b .«last_id») call;
 }
@@ -113,4 +116,10 @@ after b call = cond (isAccepted (answerOf b call)) (afterAccepted b call) b
 
 -- A fresh book has today = 0.
 unfoldable pub freshBook : Book
-freshBook = record { pairs = replicate openLimit blank; cells = replicate cellCount none; today = 0; «last_id» = 0 }
+freshBook = record {
+  pairs = replicate openLimit blank;
+  cells = replicate cellCount none;
+  summaries = replicate summaryCount noSummary;
+  today = 0;
+  «last_id» = 0;
+}

@@ -2,13 +2,14 @@
 -- book's answers and figures are those of its pairs' lives. Assumes nothing.
 use Prim.Native.Nat.{ℕ, zero, _+_, _≤_, _<_, max}
 use mathlib.Core.Path.{_≡_}
-use mathlib.Core.Bool.{Bool, cond}
+use mathlib.Core.Bool.{Bool, cond, _||_}
 use mathlib.Core.List.{List, [], _∷_, _++_}
 use lib.Dec.{eqb}
-use Rattle.book.specs.Limits.{dayLimit, categoryCount}
+use Rattle.book.specs.Limits.{dayLimit, categoryCount, largestCode}
 use Rattle.book.specs.Sums.{only, total, All}
 use Rattle.book.specs.Pairs.{Entry, Terms, Pair, terms, entered, blank, isOpen, withHold, withLack, withPart, ended}
 use Rattle.book.specs.Figures.{Cell, Posting, latePostings, partPosting, failPostings, post, postAll}
+use Rattle.book.specs.Summaries.{Summary, summaryOf, summaryAt, postSummaries}
 use Rattle.book.specs.Answers.{Call, View, answer, isAccepted}
 use Rattle.book.specs.Calls.{Book, answerOf, postings, after, freshBook}
 use Rattle.book.specs.Rows.{cellOf}
@@ -59,6 +60,19 @@ column (securities m) c = inMeasure m (c .securities)
 column (cash m) c = inMeasure m (c .cash)
 column isdValue c = c .«isd_value»
 
+-- a figure that a participant's summary stores
+pub data SummaryColumn : Type 0 where
+  summaryTotal summaryFails : Measure → SummaryColumn
+
+-- that figure of a summary
+abbrev pub summaryColumn : SummaryColumn → Summary → ℕ
+summaryColumn (summaryTotal m) s = inMeasure m (s .total)
+summaryColumn (summaryFails m) s = inMeasure m (s .fails)
+
+-- the pair names the participant, at either end or at both: document 02, card 2, 'a code at both ends is counted one time'
+abbrev pub namesParticipant : ℕ → Terms → Bool
+namesParticipant code t = eqb (t .deliverer) code || eqb (t .receiver) code
+
 -- what postings add to a figure on a day
 abbrev pub postedOn : (Cell → ℕ) → ℕ → List Posting → ℕ
 postedOn f day xs = total (λ x. only (eqb (x .day) day) (f (x .figures))) xs
@@ -70,6 +84,11 @@ postedFor f selects day xs = total (λ x. only (eqb (x .day) day) (only (selects
 -- a figure of a day, over the selected pairs: the sum of what each one's own calls give on that day
 unfoldable pub counted : (Cell → ℕ) → (Entry → Bool) → List Call → ℕ → ℕ
 counted f selects h day = sumOver selects (λ e. postedOn f day (life h (e .id))) (pairs h)
+
+-- a figure of a participant on a day, over the accepted pairs that name it
+abbrev pub countedFor : List Call → SummaryColumn → ℕ → ℕ → ℕ
+countedFor calls figure code day =
+    counted (λ c. summaryColumn figure (summaryOf c)) (λ e. namesParticipant code (terms e)) (acceptedOf calls) day
 
 -- ---- answers
 
@@ -111,6 +130,11 @@ journal b (call ∷ calls) =
 abbrev pub CellsAreJournal : Type 0
 CellsAreJournal = (calls : List Call) → bookAfter calls .cells ≡ postAll post (journal freshBook calls) (freshBook .cells)
 
+-- So are the participants' summaries.
+abbrev pub SummariesAreJournal : Type 0
+SummariesAreJournal =
+    (calls : List Call) → bookAfter calls .summaries ≡ postAll postSummaries (journal freshBook calls) (freshBook .summaries)
+
 -- Over any selection of pairs that looks at the enter alone, at its category or its two codes, the journal is the sum of the
 -- selected pairs' lives.
 abbrev pub JournalIsLives : Type 0
@@ -127,6 +151,16 @@ RowsAreLives =
     → category ≤ categoryCount
     → column figure (cellOf (bookAfter calls .cells) day category)
     ≡ counted (column figure) (λ e. counts category (e .category)) (acceptedOf calls) day
+
+-- Card 2: 'show it equal to the sum over that participant's pairs from the accepted calls'. Each figure of each participant's
+-- summary is the plain sum, over the accepted pairs that name the participant, of what that pair's own calls give on that day.
+abbrev pub SummariesAreLives : Type 0
+SummariesAreLives =
+    (calls : List Call) (figure : SummaryColumn) (day code : ℕ)
+    → day < dayLimit
+    → 1 ≤ code
+    → code ≤ largestCode
+    → summaryColumn figure (summaryAt (bookAfter calls .summaries) day code) ≡ countedFor calls figure code day
 
 -- Each answer is the one that document 01's table gives for the pairs replayed from the accepted calls.
 abbrev pub AnswersAreLives : Type 0

@@ -1,12 +1,13 @@
 -- The figures of a day and category, the postings that they are the sum of, and how the cells take a posting.
 -- Document 01, 'The six calls' and 'A row'. Assumes nothing.
-use Prim.Native.Nat.{ℕ, zero, suc, _+_, _-_, _*_, min}
+use Prim.Native.Nat.{ℕ, zero, suc, _+_, _-_, _*_}
 use mathlib.Core.Bool.{Bool, cond, not, _&&_}
 use mathlib.Core.List.{List, [], _∷_}
 use lib.Dec.{leb, eqb}
 use lib.ListN.{getD, set}
-use Rattle.book.specs.Limits.{categoryCount, cellCount}
+use Rattle.book.specs.Limits.{categoryCount}
 use Rattle.book.specs.Sums.{only, capped}
+use Rattle.book.specs.Placed.{dayPlace}
 use Rattle.book.specs.Pairs.{Terms, Pair, isOpen, hasPartOn}
 use Rattle.book.specs.SideOfFail.{Sides, sidesAtClose, sidesWhenLate}
 pub use Rattle.book.specs.declared.cells.Figure.{Figure}
@@ -15,7 +16,7 @@ pub use Rattle.book.specs.declared.cells.Cell.{Cell}
 -- ---- figures
 
 -- so many SIs, and their value
-abbrev figure : ℕ → ℕ → Figure
+abbrev pub figure : ℕ → ℕ → Figure
 figure n v = record { number = n; value = v }
 
 -- no SI, and no value
@@ -64,12 +65,18 @@ pub record Posting : Type 0 where
   pub terms : Terms
   pub figures : Cell
 
--- Enter: each day from ISD to yesterday gains its two SIs as fails at full value. Here n days from `day` on.
+-- Enter: a day from ISD to yesterday gains the late pair's two SIs as fails at full value.
+abbrev pub latePosting : ℕ → Terms → Posting
+latePosting day e = record {
+  day = day;
+  terms = e;
+  figures = failFigures (sidesWhenLate (e .kind) (e .side)) (e .amount) (eqb day (e .isd));
+}
+
+-- those of n days from `day` on
 unfoldable pub lateFrom : ℕ → ℕ → Terms → List Posting
 lateFrom zero day e = []
-lateFrom (suc n) day e =
-    record { day = day; terms = e; figures = failFigures (sidesWhenLate (e .kind) (e .side)) (e .amount) (eqb day (e .isd)) }
-    ∷ lateFrom n (suc day) e
+lateFrom (suc n) day e = latePosting day e ∷ lateFrom n (suc day) e
 
 -- If ISD is before today the pair is late (Guideline 8): its postings, none where it is not.
 abbrev pub latePostings : ℕ → Terms → List Posting
@@ -98,9 +105,9 @@ failPostings today (p ∷ ps) = let later = failPostings today ps in cond (faili
 
 -- ---- the cells
 
--- where the cell of a day and category lies: nine to a day, in one flat array; a place past its end is its last one
+-- where the cell of a day and category lies: nine to a day, in one flat array
 unfoldable pub place : ℕ → ℕ → ℕ
-place day category = min (categoryCount * day + (category - 1)) (cellCount - 1)
+place day category = dayPlace categoryCount day category
 
 -- the cell of a day and category
 abbrev pub cellAt : List Cell → ℕ → ℕ → Cell

@@ -1,9 +1,11 @@
 pub mod Limits
 pub mod Sums
+pub mod Placed
 pub mod Pairs
 pub mod SideOfFail
 pub mod SideTable
 pub mod Figures
+pub mod Summaries
 pub mod Answers
 pub mod Calls
 pub mod Applied
@@ -15,5 +17,5 @@ pub mod Counted
 pub mod Exact
 pub mod Edges
 pub mod Worked
-pub mod Placed
+pub mod DayFigures
 pub mod AtPlace

@@ -28,3 +28,7 @@ largestAmount = 10000000000
 -- codes of participants are 1 to this: card 1
 abbrev pub largestCode : ℕ
 largestCode = 40
+
+-- a summary for each day and participant: card 2
+abbrev pub summaryCount : ℕ
+summaryCount = dayLimit * largestCode

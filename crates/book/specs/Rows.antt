@@ -4,20 +4,16 @@ use mathlib.Core.Bool.{Bool, cond, not, _&&_}
 use mathlib.Core.List.{List}
 use lib.Dec.{leb, ltb}
 use Rattle.book.specs.Limits.{dayLimit, categoryCount}
+use Rattle.book.specs.Sums.{addedFrom}
 use Rattle.book.specs.Figures.{Cell, none, cellAt, addFigure, addCell}
 use Rattle.book.specs.Answers.{refusalNumber}
 use Rattle.book.specs.Calls.{Book}
 pub use Rattle.book.specs.declared.rows.Row.{Row}
 pub use Rattle.book.specs.declared.rows.RowAnswer.{RowAnswer}
 
--- the sum of n cells, one for each number from the first on
-unfoldable pub addedFrom : (ℕ → Cell) → ℕ → ℕ → Cell
-addedFrom cell first zero = none
-addedFrom cell first (suc n) = addCell (cell first) (addedFrom cell (suc first) n)
-
 -- the sum of the cells of n categories of a day, from category c on
 abbrev pub cellsFrom : ℕ → ℕ → List Cell → ℕ → Cell
-cellsFrom n c cells day = addedFrom (cellAt cells day) c n
+cellsFrom n c cells day = addedFrom none addCell (cellAt cells day) c n
 
 -- category 0 is all nine together, another its own
 unfoldable pub cellOf : List Cell → ℕ → ℕ → Cell
@@ -50,9 +46,13 @@ abbrev pub givenBy : RowAnswer → Given Row
 givenBy (RowAnswer.Figures r) = figures r
 givenBy (RowAnswer.Refused r) = refusedBy (refusalNumber r)
 
--- a day before today, and one of the 64, whatever the book holds
+-- a day before today, and one of the 64, whatever today is
+abbrev pub isPast : ℕ → ℕ → Bool
+isPast today day = ltb day today && ltb day dayLimit
+
+-- the day is closed in the book
 abbrev pub isClosed : Book → ℕ → Bool
-isClosed b day = ltb day (b .today) && ltb day dayLimit
+isClosed b day = isPast (b .today) day
 
 -- The row is given for a closed day only: category over 9 is 2, a day not closed 9.
 unfoldable pub rowAnswer : Book → ℕ → ℕ → Given Row

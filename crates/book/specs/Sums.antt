@@ -1,5 +1,5 @@
 -- Sums and tests that every definition of the book uses. Assumes nothing.
-use Prim.Native.Nat.{ℕ, zero, _+_}
+use Prim.Native.Nat.{ℕ, zero, suc, _+_}
 use mathlib.Core.Bool.{Bool, true, false, _&&_}
 use mathlib.Core.List.{List, [], _∷_}
 use lib.Dec.{leb}
@@ -24,3 +24,9 @@ module _ {A : Type 0} where
   abbrev pub All : (A → Type 0) → List A → Type 0
   All P [] = Unit
   All P (x ∷ xs) = P x × All P xs
+
+module _ {A : Type 0} (none : A) (add : A → A → A) where
+  -- n things added up, one for each number from the first on
+  unfoldable pub addedFrom : (ℕ → A) → ℕ → ℕ → A
+  addedFrom item first zero = none
+  addedFrom item first (suc n) = add (item first) (addedFrom item (suc first) n)

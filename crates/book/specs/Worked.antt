@@ -2,8 +2,9 @@
 -- accepted calls, the rows, and both sides of the balance, for each of five days and three categories. The list has
 -- two parts on a day, a part and then a cancel on a day, cancels before, on and after the ISD, late pairs, and refused
 -- calls; with the two shorter lists each number that the six calls give comes back. Last stand the fails by deliverer and by
--- receiver: each code stays with its pair and its end. proofs/Worked.antt shows that the definitions give these tables.
--- Document 01, 'A row' and 'Numbers given back'; document 02, card 1. Assumes nothing.
+-- receiver, which show that each code stays with its pair and its end, and the participants' summaries. proofs/Worked.antt
+-- shows that the definitions give these tables. Document 01, 'A row' and 'Numbers given back'; document 02, cards 1 and 2.
+-- Assumes nothing.
 use Prim.Native.Nat.{ℕ, _+_}
 use mathlib.Core.Bool.{Bool, true, false}
 use mathlib.Core.List.{List, [], _∷_, _++_, map}
@@ -11,6 +12,7 @@ use lib.Dec.{eqb}
 use lib.ListN.{replicate}
 use Rattle.book.specs.Pairs.{Entry, Terms}
 use Rattle.book.specs.Figures.{Figure, Cell}
+use Rattle.book.specs.Summaries.{Summary, summaryAt}
 use Rattle.book.specs.Answers.{Call}
 use Rattle.book.specs.Calls.{Book, freshBook}
 use Rattle.book.specs.Rows.{Row, rowOf}
@@ -222,7 +224,7 @@ abbrev pub rightSide : Measure → Book → List Call → ℕ → ℕ → ℕ
 rightSide m b h day category = previousFails m (rowOf b) day category + newlyDue m h day category + partSettled m h day category
 
 -- the readings of a day and category, its row, and the two sides of its balance
-pub record DayFigures : Type 0 where
+pub record WorkedDay : Type 0 where
   pub day : ℕ
   pub category : ℕ
   pub newlyDue : Figure
@@ -237,7 +239,7 @@ abbrev inBoth : (Measure → ℕ) → Figure
 inBoth read = record { number = read number; value = read value }
 
 -- the figures by the definitions, from a book and the accepted calls h
-abbrev pub figuresOf : Book → List Call → ℕ → ℕ → DayFigures
+abbrev pub figuresOf : Book → List Call → ℕ → ℕ → WorkedDay
 figuresOf b h day category = record {
   day = day;
   category = category;
@@ -251,7 +253,7 @@ figuresOf b h day category = record {
 
 -- the figures by hand: day and category; newly due and cancelled, each in number and value; part-settled in number, its
 -- value is 0; the row; and what each side comes to, in number and value
-abbrev daily : ℕ → ℕ → ℕ → ℕ → ℕ → ℕ → ℕ → Row → ℕ → ℕ → DayFigures
+abbrev daily : ℕ → ℕ → ℕ → ℕ → ℕ → ℕ → ℕ → Row → ℕ → ℕ → WorkedDay
 daily day category due-n due-v cancelled-n cancelled-v part-n given side-n side-v = record {
   day = day;
   category = category;
@@ -264,7 +266,7 @@ daily day category due-n due-v cancelled-n cancelled-v part-n given side-n side-
 }
 
 -- the figures of the five days, by hand
-unfoldable pub workedFigures : List DayFigures
+unfoldable pub workedFigures : List WorkedDay
 workedFigures =
     -- Day 0. Newly due: pairs 1 (1,000) and 4 (700), both of category 1. Part-settled: pair 1, with a rest of 500 at the
     -- close; its two parts are 2 SIs and twice 500 settled. At the close pair 1 goes to securities (f), pair 4 to cash (d,
@@ -297,7 +299,7 @@ workedFigures =
     ∷ []
 
 -- the figures that the definitions give for the days and categories of a table
-abbrev pub figuresFor : Book → List Call → List DayFigures → List DayFigures
+abbrev pub figuresFor : Book → List Call → List WorkedDay → List WorkedDay
 figuresFor b h table = map (λ x. figuresOf b h (x .day) (x .category)) table
 
 -- ---- the fails of pairs selected by a code
@@ -339,4 +341,33 @@ workedByReceiver =
     ∷ (0 ∷ 0 ∷ 0 ∷ 0 ∷ 0 ∷ [])
     -- 40 receives pairs 6 and 7
     ∷ (0 ∷ 1200 ∷ 1300 ∷ 0 ∷ 0 ∷ [])
+    ∷ []
+
+-- ---- the participants' summaries
+
+-- total and fails, each in number and value
+abbrev summary : ℕ → ℕ → ℕ → ℕ → Summary
+summary total-n total-v fails-n fails-v = record {
+  total = record { number = total-n; value = total-v };
+  fails = record { number = fails-n; value = fails-v };
+}
+
+-- those of days 0 to 4, for each of codes 1, 2, 3 and 40
+abbrev pub summariesOfEach : Book → List (List Summary)
+summariesOfEach b =
+    map (λ code. map (λ day. summaryAt (b .summaries) day code) (0 ∷ 1 ∷ 2 ∷ 3 ∷ 4 ∷ [])) (1 ∷ 2 ∷ 3 ∷ 40 ∷ [])
+
+-- the summaries of the five days, by hand
+unfoldable pub workedSummaries : List (List Summary)
+workedSummaries =
+    -- 1 is at an end of pair 1, which settles 500 in two parts on day 0, fails with its rest of 500 up to day 3 and settles it
+    -- on day 4, and of pair 5, of which 150 settle on day 2; pairs 2 and 3 give nothing
+    (summary 4 2000 2 1000 ∷ summary 2 1000 2 1000 ∷ summary 4 1300 2 1000 ∷ summary 2 1000 2 1000 ∷ summary 2 1000 0 0 ∷ [])
+    -- 2 is at an end of pair 1, and at both ends of pair 4 (700), which fails on days 0 and 1 and counts one time; pair 2 gives
+    -- nothing
+    ∷ (summary 6 3400 4 2400 ∷ summary 4 2400 4 2400 ∷ summary 2 1000 2 1000 ∷ summary 2 1000 2 1000 ∷ summary 2 1000 0 0 ∷ [])
+    -- 3 is at an end of pair 6 (600), late on days 1 and 2 and settled on day 3; pair 3 gives nothing
+    ∷ (summary 0 0 0 0 ∷ summary 2 1200 2 1200 ∷ summary 2 1200 2 1200 ∷ summary 2 1200 0 0 ∷ summary 0 0 0 0 ∷ [])
+    -- 40 is at an end of pairs 5 and 6, and at both ends of pair 7 (50), late on day 2
+    ∷ (summary 0 0 0 0 ∷ summary 2 1200 2 1200 ∷ summary 6 1600 4 1300 ∷ summary 2 1200 0 0 ∷ summary 0 0 0 0 ∷ [])
     ∷ []

@@ -1,20 +1,16 @@
 // A call made in a book that the caller keeps: what it looks for, what it makes of the place where that is found, and which
 // fails are then to be counted. The methods of the book take it and hand it back, which costs copies of it.
 ghost use mathlib.Core.Path.{_≡_};
-ghost use Rattle.book.specs.Placed.{Placed};
-ghost use Rattle.book.specs.AtPlace.{soughtBy, isSought, withLateFail, Leaves};
+ghost use Rattle.book.specs.AtPlace.{soughtBy, isSought, Leaves};
 use crate::calls::Answer;
 use crate::calls::Call;
-use crate::cells::Cell;
-use crate::cells::place;
 use crate::changing::Changed;
 use crate::changing::Settled;
 use crate::closing::Closing;
 use crate::closing::close_of;
+use crate::day_figures::DayFigures;
 use crate::entering::Entered;
-use crate::numbers::wide;
 use crate::pairs::Pair;
-use crate::sides::when_late;
 
 // What a call looks for: a free place, the open pair of an id, or, as a close does, any place.
 pub enum Sought {
@@ -23,12 +19,12 @@ pub enum Sought {
     AnyPlace,
 }
 
-// What a call leaves: the pair of its place, today's cell of the category that the place's pair had, the highest id
-// accepted, the day after it, and what comes back. Left to be counted are the pair's fail on each day from `late_from` to
+// What a call leaves: the pair of its place, today's figures that the place's pair was counted in, the highest id accepted,
+// the day after it, and what comes back. Left to be counted are the pair's fail on each day from `late_from` to
 // yesterday, and at a close the fails of the pairs in so many places.
 pub struct PlaceAfter {
     pub pair: Pair,
-    pub cell: Cell,
+    pub figures: DayFigures,
     pub last_id: u64,
     pub today: u64,
     pub late_from: u64,
@@ -49,33 +45,12 @@ impl Sought {
     }
 }
 
-impl Pair {
-    // Where the cell of a day and the pair's category lies.
-    pub fn cell_place(self, day: u64) -> usize
-        ensures { λ r. ⌜ Placed day (self .terms .category) r ⌝ }
-    {
-        place(day, wide(self.terms.category))
-    }
-}
-
-impl Cell {
-    // A late pair's fail on a day before it was matched.
-    pub fn add_late(self, day: u64, pair: Pair) -> Cell
-        ensures { λ r. ⌜ r ≡ withLateFail day pair self ⌝ }
-    {
-        let terms = pair.terms;
-        let kind = terms.kind;
-        let side = terms.side;
-        self.add_fail(when_late(kind, side), terms.amount, day == wide(terms.isd))
-    }
-}
-
 impl Changed {
     // The pair after a hold, a lack or a cancel, beside what stays the same.
-    fn beside(self, today: u64, last_id: u64, cell: Cell) -> PlaceAfter
+    fn beside(self, today: u64, last_id: u64, figures: DayFigures) -> PlaceAfter
         ensures { λ r. ⌜ r ≡ record {
           pair = self .pair;
-          cell = cell;
+          figures = figures;
           «last_id» = «last_id»;
           today = today;
           «late_from» = today;
@@ -87,7 +62,7 @@ impl Changed {
         let answer = self.answer;
         PlaceAfter {
             pair: pair,
-            cell: cell,
+            figures: figures,
             last_id: last_id,
             today: today,
             late_from: today,
@@ -98,11 +73,11 @@ impl Changed {
 }
 
 impl Settled {
-    // The pair and the cell after a settle, beside what stays the same.
+    // The pair and the figures after a settle, beside what stays the same.
     fn beside(self, today: u64, last_id: u64) -> PlaceAfter
         ensures { λ r. ⌜ r ≡ record {
           pair = self .pair;
-          cell = self .cell;
+          figures = self .figures;
           «last_id» = «last_id»;
           today = today;
           «late_from» = today;
@@ -111,11 +86,11 @@ impl Settled {
         } ⌝ }
     {
         let pair = self.pair;
-        let cell = self.cell;
+        let figures = self.figures;
         let answer = self.answer;
         PlaceAfter {
             pair: pair,
-            cell: cell,
+            figures: figures,
             last_id: last_id,
             today: today,
             late_from: today,
@@ -127,10 +102,10 @@ impl Settled {
 
 impl Entered {
     // The place after an enter, beside what stays the same.
-    fn beside(self, today: u64, cell: Cell) -> PlaceAfter
+    fn beside(self, today: u64, figures: DayFigures) -> PlaceAfter
         ensures { λ r. ⌜ r ≡ record {
           pair = self .pair;
-          cell = cell;
+          figures = figures;
           «last_id» = self .«last_id»;
           today = today;
           «late_from» = self .«late_from»;
@@ -142,7 +117,7 @@ impl Entered {
         let answer = self.answer;
         PlaceAfter {
             pair: pair,
-            cell: cell,
+            figures: figures,
             last_id: self.last_id,
             today: today,
             late_from: self.late_from,
@@ -154,10 +129,10 @@ impl Entered {
 
 impl Closing {
     // The day after a close, beside what stays the same.
-    fn beside(self, today: u64, last_id: u64, pair: Pair, cell: Cell) -> PlaceAfter
+    fn beside(self, today: u64, last_id: u64, pair: Pair, figures: DayFigures) -> PlaceAfter
         ensures { λ r. ⌜ r ≡ record {
           pair = pair;
-          cell = cell;
+          figures = figures;
           «last_id» = «last_id»;
           today = self .today;
           «late_from» = today;
@@ -168,7 +143,7 @@ impl Closing {
         let answer = self.answer;
         PlaceAfter {
             pair: pair,
-            cell: cell,
+            figures: figures,
             last_id: last_id,
             today: self.today,
             late_from: today,
@@ -193,18 +168,19 @@ impl Call {
         }
     }
 
-    // What it makes of the place where the search for that ended, which holds the pair, and of today's cell of the pair's
-    // category.
-    pub fn at_place(self, today: u64, last_id: u64, pair: Pair, cell: Cell) -> PlaceAfter
-        ensures { λ r. ⌜ Leaves today «last_id» pair cell self r ⌝ }
+    // What it makes of the place where the search for that ended, which holds the pair, and of today's figures that the pair
+    // is counted in.
+    pub fn at_place(self, today: u64, last_id: u64, pair: Pair, figures: DayFigures) -> PlaceAfter
+        ensures { λ r. ⌜ Leaves today «last_id» pair figures self r ⌝ }
     {
         match self {
-            Call::Enter(entry) => entry.enter(today, last_id, pair).beside(today, cell),
-            Call::Hold(id, side, on) => pair.hold(today, id, side, on).beside(today, last_id, cell),
-            Call::Lack(id, lack) => pair.lack(today, id, lack).beside(today, last_id, cell),
-            Call::Settle(id, part) => pair.settle(cell, today, id, part).beside(today, last_id),
-            Call::Cancel(id) => pair.cancel(today, id).beside(today, last_id, cell),
-            Call::Close => close_of(today).beside(today, last_id, pair, cell),
+            Call::Enter(entry) => entry.enter(today, last_id, pair).beside(today, figures),
+            Call::Hold(id, side, on) => pair.hold(today, id, side, on)
+                .beside(today, last_id, figures),
+            Call::Lack(id, lack) => pair.lack(today, id, lack).beside(today, last_id, figures),
+            Call::Settle(id, part) => pair.settle(figures, today, id, part).beside(today, last_id),
+            Call::Cancel(id) => pair.cancel(today, id).beside(today, last_id, figures),
+            Call::Close => close_of(today).beside(today, last_id, pair, figures),
         }
     }
 }

@@ -7,13 +7,16 @@ use crate::calls::Call;
 use crate::cells::Cell;
 use crate::limits::CELLS;
 use crate::limits::PAIRS;
+use crate::limits::SUMMARIES;
 use crate::pairs::Pair;
+use crate::summaries::Summary;
 
 // `last_id` is the highest id accepted so far. A place of `pairs` is free where its pair is not open. The cells lie
-// in one flat array by day and category, nine to a day.
+// in one flat array by day and category, nine to a day, and the summaries in one by day and participant, forty to a day.
 pub struct Book {
     pub pairs: [Pair; PAIRS],
     pub cells: [Cell; CELLS],
+    pub summaries: [Summary; SUMMARIES],
     pub today: u64,
     pub last_id: u64,
 }
@@ -31,11 +34,14 @@ impl Book {
     {
         let pair = Pair::blank();
         let cell = Cell::none();
+        let summary = Summary::none();
         let pairs = [pair; PAIRS];
         let cells = [cell; CELLS];
+        let summaries = [summary; SUMMARIES];
         Book {
             pairs: pairs,
             cells: cells,
+            summaries: summaries,
             today: 0,
             last_id: 0,
         }

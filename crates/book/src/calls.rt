@@ -16,7 +16,7 @@ pub enum Call {
     Close,
 }
 
-// Why a call, a row, a report, a file or a row as text is refused, in the order of document 01's numbers 1 to 11.
+// Why a call, a row, a report, a list, a file or a row as text is refused, in the order of document 01's numbers 1 to 11.
 pub enum Refusal {
     Finished,
     OutOfRange,
@@ -31,7 +31,7 @@ pub enum Refusal {
     ShortBuffer,
 }
 
-// What comes back from one of the six calls, and beside each of nine reports.
+// What comes back from one of the six calls, and beside each of nine reports, a list and a file replayed.
 pub enum Answer {
     Accepted,
     Refused(Refusal),

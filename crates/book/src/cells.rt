@@ -1,12 +1,15 @@
 // The figures of a day and category, what a call adds to them, and where they lie. Document 01, 'The six calls' and
 // 'A row'.
 ghost use mathlib.Core.Path.{_≡_};
-ghost use Prim.Native.Nat.{_-_, _*_, min};
-ghost use Rattle.book.specs.Sums.{only, capped};
-ghost use Rattle.book.specs.Figures.{nothing, none, partFigures, failFigures, addFigure, addCell};
+ghost use Prim.Native.Nat.{_*_};
+ghost use Rattle.book.specs.Limits.{cellCount};
+ghost use Rattle.book.specs.Sums.{only};
+ghost use Rattle.book.specs.Figures.{nothing, none, partFigures, failFigures, place, addFigure, addCell};
 ghost use Rattle.book.specs.Placed.{Placed};
 use crate::limits::CATEGORIES;
-use crate::limits::DAYS;
+use crate::numbers::day_place;
+use crate::numbers::only_if;
+use crate::numbers::twice;
 use crate::sides::Sides;
 use rates::stored::capped_sum;
 
@@ -16,7 +19,7 @@ pub struct Figure {
     pub value: u64,
 }
 
-const NOTHING: Figure = Figure {
+pub(crate) const NOTHING: Figure = Figure {
     number: 0,
     value: 0,
 };
@@ -27,20 +30,6 @@ pub struct Cell {
     pub securities: Figure,
     pub cash: Figure,
     pub isd_value: u64,
-}
-
-// The value of two SIs, each worth `value`.
-fn twice(value: u64) -> u64
-    ensures { λ r. ⌜ r ≡ capped (2 * value) ⌝ }
-{
-    capped_sum(value, value)
-}
-
-// `n` where the test passes, and 0 where it fails.
-fn only_if(test: bool, n: u64) -> u64
-    ensures { λ r. ⌜ r ≡ only test n ⌝ }
-{
-    if test { n } else { 0 }
 }
 
 impl Figure {
@@ -81,7 +70,7 @@ impl Cell {
     }
 
     // Settle: today gains twice the part as settled value, and 2 SIs settled if it is the pair's first part today.
-    pub fn add_part(self, first: bool, part: u64) -> Cell
+    pub(crate) fn add_part(self, first: bool, part: u64) -> Cell
         ensures { λ r. ⌜ r ≡ addCell self (partFigures first part) ⌝ }
     {
         let settled = Figure {
@@ -97,7 +86,7 @@ impl Cell {
     }
 
     // A fail whose two SIs are worth `value` each, by their sides.
-    pub fn add_fail(self, to: Sides, value: u64, on_isd: bool) -> Cell
+    pub(crate) fn add_fail(self, to: Sides, value: u64, on_isd: bool) -> Cell
         ensures { λ r. ⌜ r ≡ addCell self (failFigures to value «on_isd») ⌝ }
     {
         let one = Figure {
@@ -133,26 +122,9 @@ impl Cell {
     }
 }
 
-// The smaller of two numbers.
-fn least(a: u64, b: u64) -> u64
-    ensures { λ r. ⌜ r ≡ min a b ⌝ }
-{
-    if a <= b { a } else { b }
-}
-
-// One less, and 0 for 0.
-fn one_less(n: u64) -> u64
-    ensures { λ r. ⌜ r ≡ n - 1 ⌝ }
-{
-    if n == 0 { 0 } else { n - 1 }
-}
-
-// Where the cell of a day and category lies. Those out of their ranges are cut down first, so that no sum on the way
-// passes 64 bits.
+// Where the cell of a day and category lies.
 pub fn place(day: u64, category: u64) -> usize
-    ensures { λ r. ⌜ Placed day category r ⌝ }
+    ensures { λ r. ⌜ Placed (place day category) cellCount r ⌝ }
 {
-    let days = least(day, DAYS);
-    let categories = least(one_less(category), DAYS * CATEGORIES);
-    least(CATEGORIES * days + categories, DAYS * CATEGORIES - 1) as usize
+    day_place(CATEGORIES, day, category)
 }

@@ -12,8 +12,7 @@ use crate::book::Book;
 use crate::book::Outcome;
 use crate::calls::Answer;
 use crate::calls::Refusal;
-use crate::cells::Cell;
-use crate::cells::place;
+use crate::day_figures::DayFigures;
 use crate::limits::DAYS;
 use crate::limits::LAST_PLACE;
 use crate::numbers::is_within;
@@ -26,10 +25,10 @@ pub(crate) struct Changed {
     pub answer: Answer,
 }
 
-// A pair and today's cell of its category after a settle, and what comes back.
+// A pair and today's figures that it is counted in after a settle, and what comes back.
 pub(crate) struct Settled {
     pub pair: Pair,
-    pub cell: Cell,
+    pub figures: DayFigures,
     pub answer: Answer,
 }
 
@@ -169,19 +168,19 @@ impl Pair {
     }
 
     // Settle takes a part of the rest, and today gains it.
-    pub(crate) fn settle(self, cell: Cell, today: u64, id: u64, part: u64) -> Settled
-        ensures { λ r. ⌜ Settles today id part self cell r ⌝ }
+    pub(crate) fn settle(self, figures: DayFigures, today: u64, id: u64, part: u64) -> Settled
+        ensures { λ r. ⌜ Settles today id part self figures r ⌝ }
     {
         let answer = self.settle_answer(today, id, part);
         match answer {
             Answer::Accepted => Settled {
                 pair: self.with_part(today, part),
-                cell: cell.add_part(!self.has_part_on(today), part),
+                figures: figures.add_part(!self.has_part_on(today), part),
                 answer: Answer::Accepted,
             },
             Answer::Refused(refusal) => Settled {
                 pair: self,
-                cell: cell,
+                figures: figures,
                 answer: Answer::Refused(refusal),
             },
         }
@@ -239,7 +238,7 @@ impl Book {
         }
     }
 
-    // Settle. Today's cell of the pair's category gains the part.
+    // Settle. Today's cell of the pair's category and its participants' summaries gain the part.
     pub fn settle(mut self, id: u64, part: u64) -> Outcome
         ensures { λ r. ⌜ Applied self (Call.Settle id part) r ⌝ }
     {
@@ -253,14 +252,25 @@ impl Book {
         }
         let today = self.today;
         let pair = self.pairs[i];
-        let at = place(today, wide(pair.terms.category));
-        let cell = self.cells[at];
-        let settled = pair.settle(cell, today, id, part);
+        let cell_at = pair.cell_place(today);
+        let deliverer_at = pair.deliverer_place(today);
+        let receiver_at = pair.receiver_place(today);
+        let figures = DayFigures {
+            cell: self.cells[cell_at],
+            deliverer: self.summaries[deliverer_at],
+            receiver: self.summaries[receiver_at],
+        };
+        let settled = pair.settle(figures, today, id, part);
         let next = settled.pair;
-        let next_cell = settled.cell;
+        let gained = settled.figures;
         let answer = settled.answer;
         self.pairs[i] = next;
-        self.cells[at] = next_cell;
+        let cell = gained.cell;
+        let deliverer = gained.deliverer;
+        let receiver = gained.receiver;
+        self.cells[cell_at] = cell;
+        self.summaries[deliverer_at] = deliverer;
+        self.summaries[receiver_at] = receiver;
         Outcome {
             book: self,
             answer: answer,

@@ -1,19 +1,14 @@
 // Close: each open pair that is due fails, and today rises by one. Document 01, 'The six calls'.
-ghost use mathlib.Core.Path.{_≡_};
 ghost use Rattle.book.specs.Answers.{Call};
-ghost use Rattle.book.specs.AtPlace.{Closes, withFail};
+ghost use Rattle.book.specs.AtPlace.{Closes};
 ghost use Rattle.book.specs.Applied.{Applied};
 use crate::book::Book;
 use crate::book::Outcome;
 use crate::calls::Answer;
 use crate::calls::Refusal;
-use crate::cells::Cell;
-use crate::cells::place;
+use crate::day_figures::DayFigures;
 use crate::limits::DAYS;
 use crate::limits::PAIRS;
-use crate::numbers::wide;
-use crate::pairs::Pair;
-use crate::sides::at_close;
 
 // How many places a close looks at, the day after it, and what comes back.
 pub(crate) struct Closing {
@@ -40,28 +35,8 @@ pub(crate) fn close_of(today: u64) -> Closing
     }
 }
 
-impl Cell {
-    // A pair's fail at the close of today, where it fails: the one place where a close works out its side.
-    pub fn close(self, today: u64, pair: Pair) -> Cell
-        ensures { λ r. ⌜ r ≡ withFail today pair self ⌝ }
-    {
-        if !pair.is_failing(today) {
-            return self;
-        }
-        let terms = pair.terms;
-        let kind = terms.kind;
-        let holds = pair.holds;
-        let lack = pair.lack;
-        self.add_fail(
-            at_close(kind, holds, lack),
-            pair.rest,
-            today == wide(terms.isd),
-        )
-    }
-}
-
 impl Book {
-    // Each place's pair gives its fail to the cell of its category.
+    // Each place's pair gives its fail to the cell of its category and to its participants' summaries.
     pub fn close(mut self) -> Outcome
         ensures { λ r. ⌜ Applied self Call.Close r ⌝ }
     {
@@ -72,10 +47,21 @@ impl Book {
         let mut i: usize = 0;
         while i < places {
             let pair = self.pairs[i];
-            let at = place(today, wide(pair.terms.category));
-            let cell = self.cells[at];
-            let next = cell.close(today, pair);
-            self.cells[at] = next;
+            let cell_at = pair.cell_place(today);
+            let deliverer_at = pair.deliverer_place(today);
+            let receiver_at = pair.receiver_place(today);
+            let figures = DayFigures {
+                cell: self.cells[cell_at],
+                deliverer: self.summaries[deliverer_at],
+                receiver: self.summaries[receiver_at],
+            };
+            let gained = figures.close(today, pair);
+            let cell = gained.cell;
+            let deliverer = gained.deliverer;
+            let receiver = gained.receiver;
+            self.cells[cell_at] = cell;
+            self.summaries[deliverer_at] = deliverer;
+            self.summaries[receiver_at] = receiver;
             i += 1;
         }
         self.today = closing.today;

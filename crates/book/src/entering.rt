@@ -11,7 +11,7 @@ use crate::book::Book;
 use crate::book::Outcome;
 use crate::calls::Answer;
 use crate::calls::Refusal;
-use crate::cells::place;
+use crate::day_figures::DayFigures;
 use crate::limits::CATEGORIES;
 use crate::limits::DAYS;
 use crate::limits::LARGEST_AMOUNT;
@@ -24,7 +24,6 @@ use crate::pairs::Kind;
 use crate::pairs::Pair;
 use crate::pairs::Side;
 use crate::pairs::Terms;
-use crate::sides::when_late;
 
 // What an enter leaves in its place, the highest id accepted, the first day that the pair is late, which is today where
 // it is not, and what comes back.
@@ -131,7 +130,7 @@ impl Book {
         self.last_id = entered.last_id;
         if from < today {
             return Outcome {
-                book: self.add_late(entry, from),
+                book: self.add_late(next, from),
                 answer: answer,
             };
         }
@@ -143,18 +142,28 @@ impl Book {
 
     // Each day from a day of the past to yesterday gains the fail of a late pair. It stands apart from the enter, since
     // few pairs are late and only they pay for two more copies of the book.
-    fn add_late(mut self, entry: Entry, from: u64) -> Book
+    fn add_late(mut self, pair: Pair, from: u64) -> Book
         requires { ⌜ self .today < dayLimit ⌝ }
-        ensures { λ r. ⌜ r ≡ withLate entry from self ⌝ }
+        ensures { λ r. ⌜ r ≡ withLate (pair .terms) from self ⌝ }
     {
         let today = self.today;
-        let to = when_late(Kind::of(entry.kind), Side::of(entry.side));
         let mut day = from;
         while day < today {
-            let at = place(day, entry.category);
-            let cell = self.cells[at];
-            let next = cell.add_fail(to, entry.amount, day == entry.isd);
-            self.cells[at] = next;
+            let cell_at = pair.cell_place(day);
+            let deliverer_at = pair.deliverer_place(day);
+            let receiver_at = pair.receiver_place(day);
+            let figures = DayFigures {
+                cell: self.cells[cell_at],
+                deliverer: self.summaries[deliverer_at],
+                receiver: self.summaries[receiver_at],
+            };
+            let gained = figures.add_late(day, pair);
+            let cell = gained.cell;
+            let deliverer = gained.deliverer;
+            let receiver = gained.receiver;
+            self.cells[cell_at] = cell;
+            self.summaries[deliverer_at] = deliverer;
+            self.summaries[receiver_at] = receiver;
             day += 1;
         }
         self

@@ -23,3 +23,6 @@ pub const LARGEST_AMOUNT: u64 = 10000000000;
 
 // Codes of participants are 1 to this.
 pub const LARGEST_CODE: u64 = 40;
+
+// Summaries, one for each day and participant.
+pub const SUMMARIES: usize = (DAYS * LARGEST_CODE) as usize;

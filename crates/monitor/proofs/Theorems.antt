@@ -4,8 +4,9 @@
 pub mod Files
 -- its book is that of its calls, and each line is counted once
 pub mod Replayed
--- its table, its reports and its answers fit into their buffers
+-- its table, its reports, its lists and its answers fit into their buffers
 pub mod Lines
 pub mod Table
 pub mod ReportTable
+pub mod ListTable
 pub mod AnswerTable

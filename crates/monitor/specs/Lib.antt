@@ -4,6 +4,8 @@ pub mod Counts
 pub mod Texts
 pub mod Table
 pub mod DayArgument
+pub mod RunOfDays
 pub mod ReportTable
+pub mod ListTable
 pub mod AnswerTable
 pub mod Worked

@@ -1,5 +1,5 @@
 -- The reports of a call file as a table: a line for each category 0 to 9 over a run of days. Assumes nothing.
-use Prim.Native.Nat.{ℕ, suc, _-_, _≤_}
+use Prim.Native.Nat.{ℕ, suc, _≤_}
 use mathlib.Core.List.{List, [], _∷_, _++_}
 use mathlib.Core.Option.{Option, none, some}
 use lib.ListN.{length}
@@ -8,12 +8,11 @@ use Rattle.book.specs.Limits.{categoryCount}
 use Rattle.book.specs.Rows.{Given, refusedBy, figures}
 use Rattle.lines.specs.Bytes.{bytes, comma, lineFeed}
 use Rattle.lines.specs.Decimal.{decimal}
-use Rattle.lines.specs.Grammar.{joined}
 use Rattle.reports.specs.Reports.{Reported, reportAnswer}
 use Rattle.reports.specs.RowText.{rowFields}
 use Rattle.monitor.specs.Replay.{Replayed, replayOf}
-use Rattle.monitor.specs.Texts.{orFault, linesFrom}
-pub use Rattle.monitor.specs.declared.report_table.Days.{Days}
+use Rattle.monitor.specs.Texts.{orFault, refusedText, linesFrom}
+use Rattle.monitor.specs.RunOfDays.{Days, runOf}
 
 -- the columns of the table, with category for day, and first, last, rates and duration beside them
 abbrev pub reportNames : List ℕ
@@ -23,9 +22,9 @@ reportNames =
 -- ---- a line
 
 -- numbers, each with a comma behind it
-unfoldable pub listed : List ℕ → List ℕ
-listed [] = []
-listed (n ∷ ns) = decimal n ++ (comma ∷ listed ns)
+unfoldable pub withCommas : List ℕ → List ℕ
+withCommas [] = []
+withCommas (n ∷ ns) = decimal n ++ (comma ∷ withCommas ns)
 
 -- all columns but the duration
 abbrev pub reportFields : ℕ → ℕ → ℕ → Reported → List ℕ
@@ -40,7 +39,7 @@ durationText (some n) = decimal n
 -- the line of a report
 abbrev pub reportLine : ℕ → ℕ → ℕ → Reported → List ℕ
 reportLine first last category r =
-    listed (reportFields first last category r) ++ durationText (r .duration) ++ (lineFeed ∷ [])
+    withCommas (reportFields first last category r) ++ durationText (r .duration) ++ (lineFeed ∷ [])
 
 -- ---- the lines of a run of days
 
@@ -57,10 +56,6 @@ categoryLine b first last category = reportLineGiven first last category (report
 abbrev pub categoryLines : Book → ℕ → ℕ → List ℕ
 categoryLines b first last = linesFrom (categoryLine b first last) 0 (suc categoryCount)
 
--- `refused` and a number on two lines
-abbrev pub refusedText : ℕ → List ℕ
-refusedText n = bytes "refused\n" ++ joined (n ∷ [])
-
 -- where the report over all categories is refused, so are the others
 abbrev pub linesGiven : Book → ℕ → ℕ → Given Reported → List ℕ
 linesGiven b first last (refusedBy n) = refusedText n
@@ -72,10 +67,9 @@ reportsOver b first last = reportNames ++ linesGiven b first last (reportAnswer 
 
 -- ---- the whole
 
--- the run from the first to the last, or all closed days; where none is closed, day 0, which is refused
+-- over the run that the days are
 abbrev pub reportsOf : Book → Days → List ℕ
-reportsOf b Days.AllClosed = reportsOver b 0 (b .today - 1)
-reportsOf b (Days.FromTo first last) = reportsOver b first last
+reportsOf b days = let run = runOf (b .today) days in reportsOver b (run .first) (run .last)
 
 -- the reports of a file that was replayed
 unfoldable pub reportTableOf : Replayed → Days → List ℕ

@@ -2,10 +2,11 @@
 use Prim.Native.Nat.{ℕ, zero, suc, _≤_}
 use mathlib.Core.Path.{_≡_}
 use mathlib.Core.Bool.{cond}
-use mathlib.Core.List.{List, [], _++_}
+use mathlib.Core.List.{List, [], _∷_, _++_}
 use lib.ListN.{length, take, drop}
 use Rattle.book.specs.Answers.{isAccepted}
 use Rattle.lines.specs.Bytes.{bytes}
+use Rattle.lines.specs.Grammar.{joined}
 
 -- how many bytes are written, and what the buffer then holds
 pub record Written : Type 0 where
@@ -33,6 +34,10 @@ faultText = bytes "fault\n10\n"
 -- the text of a file, by the number that came back of it
 abbrev pub orFault : ℕ → List ℕ → List ℕ
 orFault number text = cond (isAccepted number) text faultText
+
+-- of a refused run of days: `refused` and a number on two lines
+abbrev pub refusedText : ℕ → List ℕ
+refusedText n = bytes "refused\n" ++ joined (n ∷ [])
 
 -- the lines of n numbers from the first on
 unfoldable pub linesFrom : (ℕ → List ℕ) → ℕ → ℕ → List ℕ

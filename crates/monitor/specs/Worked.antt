@@ -1,12 +1,14 @@
 -- Files worked by hand, each with its texts: document 01's example, a file with refused and wrong lines, and faulty files.
--- Document 01, 'The calls as text'; document 02, card 1. Assumes nothing.
+-- Document 01, 'The calls as text'; document 02, cards 1 and 2. Assumes nothing.
 use Prim.Native.Nat.{ℕ}
 use Prim.Native.String.{String}
 use mathlib.Core.Path.{_≡_}
 use mathlib.Core.List.{List, [], _∷_, map}
 use Rattle.lines.specs.Worked.{textOf}
 use Rattle.monitor.specs.Table.{tableText}
-use Rattle.monitor.specs.ReportTable.{Days, reportText}
+use Rattle.monitor.specs.RunOfDays.{Days}
+use Rattle.monitor.specs.ReportTable.{reportText}
+use Rattle.monitor.specs.ListTable.{listText}
 use Rattle.monitor.specs.AnswerTable.{answerText}
 
 -- the names line of a call file
@@ -69,6 +71,26 @@ paperReports =
 -- a run that is refused: the names line alone, then the refusal
 abbrev refusedReports : List ℕ
 refusedReports = textOf (reportColumns ∷ "refused\n" ∷ "9\n" ∷ [])
+
+-- the columns of the lists
+abbrev listColumns : String
+listColumns = "measure,code,fails,total\n"
+
+-- its lists over all closed days: both participants are at the ends of both pairs, so each has the figures of category 0, and
+-- of two that are level the lower code stands first
+abbrev paperLists : List ℕ
+paperLists =
+    textOf
+    (listColumns
+    ∷ "number,1,10,18\n"
+    ∷ "number,2,10,18\n"
+    ∷ "value,1,38000,66000\n"
+    ∷ "value,2,38000,66000\n"
+    ∷ [])
+
+-- a run that is refused has no entries
+abbrev refusedLists : List ℕ
+refusedLists = textOf (listColumns ∷ "refused\n" ∷ "9\n" ∷ [])
 
 -- ---- refused and wrong lines
 
@@ -152,10 +174,14 @@ pub record WorkedHold : Type 0 where
   pub run : reportText paperFile (Days.FromTo 0 3) ≡ paperReports
   -- day 4 is not closed, and 3 is after 2
   pub refused : map (λ last. reportText paperFile (Days.FromTo 3 last)) (4 ∷ 2 ∷ []) ≡ refusedReports ∷ refusedReports ∷ []
+  pub lists : map (listText paperFile) (Days.AllClosed ∷ Days.FromTo 0 3 ∷ []) ≡ paperLists ∷ paperLists ∷ []
+  pub refusedRuns : map (λ last. listText paperFile (Days.FromTo 3 last)) (4 ∷ 2 ∷ []) ≡ refusedLists ∷ refusedLists ∷ []
   pub mixed : tableText mixedFile ≡ mixedTable
   pub answers : answerText mixedFile ≡ mixedAnswers
   pub empty : tableText noCalls ≡ noCallsTable
   pub unclosed : reportText noCalls Days.AllClosed ≡ refusedReports
   pub faultyTables : map tableText faultyFiles ≡ fault ∷ fault ∷ fault ∷ fault ∷ []
   pub faultyReports : map (λ s. reportText s Days.AllClosed) faultyFiles ≡ fault ∷ fault ∷ fault ∷ fault ∷ []
+  pub unclosedLists : listText noCalls Days.AllClosed ≡ refusedLists
+  pub faultyLists : map (λ s. listText s Days.AllClosed) faultyFiles ≡ fault ∷ fault ∷ fault ∷ fault ∷ []
   pub faultyAnswers : map answerText faultyFiles ≡ fault ∷ fault ∷ fault ∷ fault ∷ []

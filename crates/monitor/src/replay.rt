@@ -7,6 +7,7 @@ ghost use Rattle.monitor.specs.Demand3.{callsOf, BalancesFor};
 use book::book::Book;
 use book::calls::Answer;
 use book::calls::Refusal;
+use book::day_figures::DayFigures;
 use book::limits::LAST_PLACE;
 use lines::names::has_names;
 use lines::reading::Line;
@@ -93,30 +94,63 @@ fn replay_lines(text: &[u8]) -> ReplayedFile
                 }
                 let pair = book.pairs[i];
                 let cell_at = pair.cell_place(today);
-                let cell = book.cells[cell_at];
-                let left = call.at_place(today, book.last_id, pair, cell);
+                let deliverer_at = pair.deliverer_place(today);
+                let receiver_at = pair.receiver_place(today);
+                let figures = DayFigures {
+                    cell: book.cells[cell_at],
+                    deliverer: book.summaries[deliverer_at],
+                    receiver: book.summaries[receiver_at],
+                };
+                let left = call.at_place(today, book.last_id, pair, figures);
                 let next = left.pair;
-                let next_cell = left.cell;
+                let gained = left.figures;
+                let cell = gained.cell;
+                let deliverer = gained.deliverer;
+                let receiver = gained.receiver;
                 let answer = left.answer;
                 book.pairs[i] = next;
-                book.cells[cell_at] = next_cell;
+                book.cells[cell_at] = cell;
+                book.summaries[deliverer_at] = deliverer;
+                book.summaries[receiver_at] = receiver;
                 book.last_id = left.last_id;
                 let mut day = left.late_from;
                 while day < today {
-                    let late_at = next.cell_place(day);
-                    let late_cell = book.cells[late_at];
-                    let with_late = late_cell.add_late(day, next);
-                    book.cells[late_at] = with_late;
+                    let cell_at = next.cell_place(day);
+                    let deliverer_at = next.deliverer_place(day);
+                    let receiver_at = next.receiver_place(day);
+                    let figures = DayFigures {
+                        cell: book.cells[cell_at],
+                        deliverer: book.summaries[deliverer_at],
+                        receiver: book.summaries[receiver_at],
+                    };
+                    let gained = figures.add_late(day, next);
+                    let cell = gained.cell;
+                    let deliverer = gained.deliverer;
+                    let receiver = gained.receiver;
+                    book.cells[cell_at] = cell;
+                    book.summaries[deliverer_at] = deliverer;
+                    book.summaries[receiver_at] = receiver;
                     day += 1;
                 }
                 let places = left.places;
                 let mut n: usize = 0;
                 while n < places {
                     let pair = book.pairs[n];
-                    let fail_at = pair.cell_place(today);
-                    let fail_cell = book.cells[fail_at];
-                    let with_fail = fail_cell.close(today, pair);
-                    book.cells[fail_at] = with_fail;
+                    let cell_at = pair.cell_place(today);
+                    let deliverer_at = pair.deliverer_place(today);
+                    let receiver_at = pair.receiver_place(today);
+                    let figures = DayFigures {
+                        cell: book.cells[cell_at],
+                        deliverer: book.summaries[deliverer_at],
+                        receiver: book.summaries[receiver_at],
+                    };
+                    let gained = figures.close(today, pair);
+                    let cell = gained.cell;
+                    let deliverer = gained.deliverer;
+                    let receiver = gained.receiver;
+                    book.cells[cell_at] = cell;
+                    book.summaries[deliverer_at] = deliverer;
+                    book.summaries[receiver_at] = receiver;
                     n += 1;
                 }
                 book.today = left.today;

@@ -1,35 +1,32 @@
 // The reports of a call file: a line for each category over a run of days.
 ghost use mathlib.Core.Path.{_≡_};
-ghost use Prim.Native.Nat.{_-_};
-ghost use Rattle.book.specs.Answers.{refusalNumber};
 ghost use Rattle.rates.specs.Rate.{hundredthsOf};
 ghost use Rattle.lines.specs.Writing.{Put};
 ghost use Rattle.reports.specs.Reports.{reportedBy};
 ghost use Rattle.monitor.specs.Replay.{replayedBy};
 ghost use Rattle.monitor.specs.Texts.{writtenBy, whole, Counted};
 ghost use Rattle.monitor.specs.ReportTable.{
-  listed,
+  withCommas,
   durationText,
   reportLine,
   categoryLine,
   categoryLines,
-  refusedText,
   reportsOver,
   reportTableOf,
   reportText,
   reportFields,
 };
+use crate::days::Days;
 use crate::fault::put_fault;
+use crate::fault::put_refused;
 use crate::replay::ReplayedFile;
 use crate::replay::replay;
 use book::book::Book;
 use book::calls::Answer;
-use book::calls::Refusal;
 use book::limits::CATEGORIES;
 use lines::writing::place_within;
 use lines::writing::put_byte;
 use lines::writing::put_bytes;
-use lines::writing::put_line;
 use lines::writing::put_number;
 use rates::Duration;
 use reports::reports::Report;
@@ -39,22 +36,9 @@ use reports::reports::single_report;
 // As many bytes as the reports may take.
 pub const REPORT_ROOM: usize = 4096;
 
-// The days that reports are over: all that are closed, or those from the first to the last.
-pub enum Days {
-    AllClosed,
-    FromTo(u64, u64),
-}
-
-// The day before today; on day 0, when none is closed, that day, whose report is refused.
-fn last_closed(today: u64) -> u64
-    ensures { λ r. ⌜ r ≡ today - 1 ⌝ }
-{
-    if today == 0 { 0 } else { today - 1 }
-}
-
 // Numbers, each with a comma behind it.
-fn put_listed(buffer: &mut [u8], at: usize, numbers: &[u64]) -> usize
-    ensures { λ r. ⌜ Put (now (buffer .entry)) at (listed (now (numbers .entry))) r (now (buffer .exit)) ⌝ }
+fn put_with_commas(buffer: &mut [u8], at: usize, numbers: &[u64]) -> usize
+    ensures { λ r. ⌜ Put (now (buffer .entry)) at (withCommas (now (numbers .entry))) r (now (buffer .exit)) ⌝ }
 {
     let mut end = place_within(at, buffer.len());
     let mut i: usize = 0;
@@ -111,7 +95,7 @@ fn put_report(
     ensures { λ r. ⌜ Put (now (buffer .entry)) at (reportLine first last category (reportedBy report)) r (now (buffer .exit)) ⌝ }
 {
     let fields = report_fields(first, last, category, report);
-    let behind_fields = put_listed(buffer, at, &fields);
+    let behind_fields = put_with_commas(buffer, at, &fields);
     let duration = report.duration;
     let behind_duration = put_duration(buffer, behind_fields, duration);
     put_byte(buffer, behind_duration, b'\n')
@@ -148,14 +132,6 @@ fn put_categories(buffer: &mut [u8], at: usize, book: Book, first: u64, last: u6
     end
 }
 
-// `refused` and the number of a refusal on two lines.
-fn put_refused(buffer: &mut [u8], at: usize, refusal: Refusal) -> usize
-    ensures { λ r. ⌜ Put (now (buffer .entry)) at (refusedText (refusalNumber refusal)) r (now (buffer .exit)) ⌝ }
-{
-    let end = put_bytes(buffer, at, b"refused\n");
-    put_line(buffer, end, &[refusal.number()])
-}
-
 // The names line and the lines of a run of days, or that it is refused.
 fn put_run(buffer: &mut [u8], at: usize, book: Book, first: u64, last: u64) -> usize
     ensures { λ r. ⌜ Put (now (buffer .entry)) at (reportsOver book first last) r (now (buffer .exit)) ⌝ }
@@ -180,10 +156,8 @@ fn put_reports(buffer: &mut [u8], at: usize, replay: ReplayedFile, days: Days) -
     match answer {
         Answer::Accepted => {
             let book = replay.book;
-            match days {
-                Days::AllClosed => put_run(buffer, at, book, 0, last_closed(book.today)),
-                Days::FromTo(first, last) => put_run(buffer, at, book, first, last),
-            }
+            let run = days.run(book.today);
+            put_run(buffer, at, book, run.first, run.last)
         }
         Answer::Refused(_) => put_fault(buffer, at),
     }

@@ -7,6 +7,7 @@ ghost use Rattle.rates.specs.Rate.{rate, duration, hundredthsOf};
 
 pub mod stored; // the largest number of 64 bits, and sums that stop there
 mod quotient; // a quotient with its remainder, multiplied and rounded
+pub mod comparison; // two rates compared exactly
 
 use crate::quotient::Quotient;
 use crate::quotient::capped_scaled;

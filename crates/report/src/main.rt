@@ -1,22 +1,16 @@
 // Reads a call file on standard input and writes its reports, over all closed days or, with two arguments, from the first
 // day to the last.
+use arguments::Asked;
+use arguments::asked_days;
 use libc::STDIN_FILENO;
-use monitor::day_argument::DayArgument;
-use monitor::day_argument::day_of;
+use monitor::days::Days;
 use monitor::replay::FILE_ROOM;
-use monitor::report_table::Days;
 use monitor::report_table::REPORT_ROOM;
 use monitor::report_table::report_table;
 use streams::read_all;
 use streams::say;
 use streams::say_unread;
 use streams::write_text;
-
-// What the arguments ask for: a run of days, or nothing that is known.
-enum Asked {
-    Known(Days),
-    Unknown,
-}
 
 fn main() {
     let asked = asked_days();
@@ -26,31 +20,6 @@ fn main() {
             b"girpelso: the days of a report are two numbers, the first and the last\n",
         ),
     }
-}
-
-// No argument: all closed days; two: from the first to the last.
-fn asked_days() -> Asked {
-    let count = os::arg_count();
-    if count < 2 {
-        return Asked::Known(Days::AllClosed);
-    }
-    if count != 3 {
-        return Asked::Unknown;
-    }
-    let DayArgument::Day(first) = day_at(1) else {
-        return Asked::Unknown;
-    };
-    let DayArgument::Day(last) = day_at(2) else {
-        return Asked::Unknown;
-    };
-    Asked::Known(Days::FromTo(first, last))
-}
-
-// The day that an argument says.
-fn day_at(i: usize) -> DayArgument {
-    let mut digits = [0u8; 32];
-    let n = os::arg(i, &mut digits);
-    day_of(&digits[..n])
 }
 
 // The reports of the file on standard input.

@@ -1,10 +1,11 @@
 -- The reports and lines worked by hand hold, by computation. Assumes nothing.
 use mathlib.Core.Path.{refl}
 use Rattle.rates.specs.Rate.{rate, duration}
+use Rattle.book.specs.Sums.{addedFrom}
 use Rattle.book.specs.Figures.{lateFrom, failPosting, failPostings, place, post}
 use Rattle.book.specs.Answers.{answer}
 use Rattle.book.specs.Calls.{places, firstPlace, viewOf, postings, pairsAfter, afterAccepted, after, freshBook}
-use Rattle.book.specs.Rows.{addedFrom, cellOf, rowAnswer}
+use Rattle.book.specs.Rows.{cellOf, rowAnswer}
 use Rattle.book.specs.Balance.{step, run, afterCalls}
 use Rattle.book.specs.Edges.{example}
 use Rattle.book.specs.Worked.{worked}

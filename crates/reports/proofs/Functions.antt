@@ -1,4 +1,6 @@
 -- What the proofs of the functions share.
 
--- the loop of `nine_reports`
+-- a run of days that is not refused
+pub mod Runs
+-- a list that a loop fills
 pub mod Filling

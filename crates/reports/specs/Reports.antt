@@ -11,7 +11,7 @@ use Rattle.book.specs.declared.book.Book.{Book}
 use Rattle.book.specs.declared.rows.Row.{Row}
 use Rattle.book.specs.Limits.{categoryCount}
 use Rattle.book.specs.Answers.{refusalNumber}
-use Rattle.book.specs.Rows.{rowOf, Given, refusedBy, figures, isClosed}
+use Rattle.book.specs.Rows.{rowOf, Given, refusedBy, figures, isPast}
 use Rattle.book.specs.History.{Measure, number, value}
 use Rattle.book.specs.Balance.{inMeasure}
 use Rattle.book.specs.Exact.{sumFrom}
@@ -96,8 +96,12 @@ abbrev pub rowsOf : Book → ℕ → ℕ → Row
 rowsOf b category day = rowOf b day category
 
 -- 9: first after last, or last not closed
+abbrev pub runRefused : ℕ → ℕ → ℕ → Bool
+runRefused today first last = ltb last first || not (isPast today last)
+
+-- the same, by the book's today
 abbrev pub daysRefused : Book → ℕ → ℕ → Bool
-daysRefused b first last = ltb last first || not (isClosed b last)
+daysRefused b first last = runRefused (b .today) first last
 
 -- From first to last closed day, for category 0 (all) or 1 to 9: category over 9 is 2, first after last or last not
 -- closed 9.

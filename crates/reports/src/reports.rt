@@ -1,7 +1,7 @@
 // A report over a run of days: the sums of its rows, the fail rates and the average duration. Document 01, 'A report'.
 ghost use mathlib.Core.Path.{_≡_};
 ghost use Rattle.rates.specs.Stored.{capped};
-ghost use Rattle.reports.specs.Reports.{reportFrom, reportedBy, reportGivenBy, reportAnswer};
+ghost use Rattle.reports.specs.Reports.{reportFrom, reportedBy, reportGivenBy, runRefused, reportAnswer};
 use crate::sums::sums_of;
 use book::book::Book;
 use book::calls::Refusal;
@@ -40,6 +40,19 @@ fn report_from(sums: Row) -> Report
     }
 }
 
+// The first day is after the last, or the last is not closed: a run of days that is refused by 9.
+pub fn is_refused_run(today: u64, first: u64, last: u64) -> bool
+    ensures { λ r. ⌜ r ≡ runRefused today first last ⌝ }
+{
+    if last < first {
+        return true;
+    }
+    if today <= last {
+        return true;
+    }
+    !(last < DAYS)
+}
+
 // The report from the first to the last day, both included, for a category, 0 for all nine together.
 pub fn single_report(book: Book, first: u64, last: u64, category: u64) -> ReportAnswer
     ensures { λ r. ⌜ reportGivenBy r ≡ reportAnswer book first last category ⌝ }
@@ -47,13 +60,7 @@ pub fn single_report(book: Book, first: u64, last: u64, category: u64) -> Report
     if CATEGORIES < category {
         return ReportAnswer::Refused(Refusal::OutOfRange);
     }
-    if last < first {
-        return ReportAnswer::Refused(Refusal::NotClosed);
-    }
-    if book.today <= last {
-        return ReportAnswer::Refused(Refusal::NotClosed);
-    }
-    if DAYS <= last {
+    if is_refused_run(book.today, first, last) {
         return ReportAnswer::Refused(Refusal::NotClosed);
     }
     let sums = sums_of(book, first, last + 1, category);

@@ -1,13 +1,15 @@
 // Holds the texts of example files to stored ones. For each NAME among its arguments it reads NAME.csv and makes its table,
-// reports and answers; it writes the NAME and which of NAME.table, NAME.report and NAME.answers are stored, and says so where
-// one of them is another text.
+// reports, lists and answers; it writes the NAME and which of NAME.table, NAME.report, NAME.worst and NAME.answers are stored,
+// and says so where one of them is another text.
 mod files; // files by name
 
 use crate::files::read_file;
 use monitor::answer_table::ANSWER_ROOM;
 use monitor::answer_table::answer_table;
+use monitor::days::Days;
+use monitor::list_table::LIST_ROOM;
+use monitor::list_table::list_table;
 use monitor::replay::FILE_ROOM;
-use monitor::report_table::Days;
 use monitor::report_table::REPORT_ROOM;
 use monitor::report_table::report_table;
 use monitor::table::TABLE_ROOM;
@@ -49,6 +51,7 @@ fn hold_example(name: &[u8]) {
 fn hold_texts(name: &[u8], file: &[u8]) {
     hold_table(name, file);
     hold_reports(name, file);
+    hold_lists(name, file);
     hold_answers(name, file);
 }
 
@@ -64,6 +67,13 @@ fn hold_reports(name: &[u8], file: &[u8]) {
     let mut text = [0u8; REPORT_ROOM];
     let count = report_table(file, Days::AllClosed, &mut text);
     hold(name, b".report", b" report", &text[..count]);
+}
+
+// Its participants with the highest fail rates over all closed days.
+fn hold_lists(name: &[u8], file: &[u8]) {
+    let mut text = [0u8; LIST_ROOM];
+    let count = list_table(file, Days::AllClosed, &mut text);
+    hold(name, b".worst", b" worst", &text[..count]);
 }
 
 // Its answers.

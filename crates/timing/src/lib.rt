@@ -8,6 +8,7 @@ use book::rows::RowAnswer;
 
 mod reads; // lines to be read
 mod tables; // the table of a file
+mod lists; // the lists of a file
 
 // A pair due on day 0; ids side by side differ in category, kind and deliverer.
 fn entry_of(id: u64) -> Entry {

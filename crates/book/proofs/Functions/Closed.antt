@@ -1,27 +1,29 @@
--- The loop of a close: at place i, what the places left post to the cells now is what all places post to the cells at the
+-- The loop of a close: at place i, what the places left post to the figures now is what all places post to those at the
 -- start. Assumes nothing.
 use Prim.Native.Nat.{ℕ, zero, suc, _+_, _-_, _≤_, _<_}
 use native.Mathlib.Omega.{arith}
 use mathlib.Core.Path.{_≡_, refl, sym, ap, _∙_}
 use mathlib.Core.Bool.{Bool, true, false, cond}
 use mathlib.Core.List.{List, [], _∷_}
-use lib.ListN.{getD, drop, set}
+use lib.ListN.{drop}
 use Rattle.book.specs.Limits.{openLimit}
 use Rattle.book.specs.Sums.{only}
 use Rattle.book.specs.Pairs.{Pair}
-use Rattle.book.specs.Figures.{Cell, none, failing, failPosting, failPostings, place, post, postAll}
+use Rattle.book.specs.Figures.{failing, failPosting, failPostings}
+use Rattle.book.specs.DayFigures.{DayFigures, withFail}
 use Rattle.book.specs.Answers.{Call, answer, isAccepted}
 use Rattle.book.specs.Calls.{Book, withBlanks, places, viewOf, postings, pairsAfter, afterAccepted}
-use Rattle.book.specs.AtPlace.{onDay, Closes, withFail}
+use Rattle.book.specs.AtPlace.{onDay, Closes}
 use Rattle.book.specs.Applied.{Applied}
 use Rattle.book.specs.declared.closing.Closing.{Closing}
 use Rattle.book.proofs.Theorems.Places.{pairAt}
 use Rattle.book.proofs.Theorems.Sums.{only-le}
-use Rattle.book.proofs.Functions.Handed.{either-way, post-chosen, applied}
+use Rattle.book.proofs.Functions.Ledger.{Ledger, ledger, posted, FigurePlaces, placesOf, figuresAt, storedAt, post-chosen}
+use Rattle.book.proofs.Functions.Handed.{either-way, applied}
 
--- the cells once the pairs of a list that fail have posted their fails
-abbrev pub failsPosted : ℕ → List Pair → List Cell → List Cell
-failsPosted today ps cells = postAll post (failPostings today ps) cells
+-- the figures once the pairs of a list that fail have posted their fails
+abbrev pub failsPosted : ℕ → List Pair → Ledger → Ledger
+failsPosted today ps l = posted (failPostings today ps) l
 
 -- the places from place i on, of n places
 abbrev pub placesFrom : ℕ → ℕ → List Pair → List Pair
@@ -36,66 +38,72 @@ next-place n zero (p ∷ ps) = refl
 next-place n (suc i) [] = refl
 next-place n (suc i) (p ∷ ps) = next-place n i ps
 
--- a pair's cell with its fail, and then the fails of the pairs after it
-fail-one : (today : ℕ) (p : Pair) (ps : List Pair) (cells : List Cell) (at : ℕ) → at ≡ place today (p .terms .category)
-    → failsPosted today (p ∷ ps) cells ≡ failsPosted today ps (set cells at (withFail today p (getD cells at none)))
+-- a pair's figures with its fail, and then the fails of the pairs after it
+fail-one : (today : ℕ) (p : Pair) (ps : List Pair) (l : Ledger) (at : FigurePlaces) → at ≡ placesOf today (p .terms)
+    → failsPosted today (p ∷ ps) l ≡ failsPosted today ps (storedAt at (withFail today p (figuresAt at l)) l)
 unfolding failPosting failPostings
-fail-one today p ps cells at placed =
+fail-one today p ps l at placed =
     go (failing today p)
-    ∙ ap (failsPosted today ps) (sym (post-chosen (failing today p) (failPosting today p) cells at placed))
+    ∙ ap (failsPosted today ps) (sym (post-chosen (failing today p) (failPosting today p) at l placed))
   where
     go : (t : Bool)
-        → postAll post (cond t (failPosting today p ∷ failPostings today ps) (failPostings today ps)) cells
-        ≡ failsPosted today ps (cond t (post (failPosting today p) cells) cells)
+        → posted (cond t (failPosting today p ∷ failPostings today ps) (failPostings today ps)) l
+        ≡ failsPosted today ps (cond t (posted (failPosting today p ∷ []) l) l)
     go true = refl
     go false = refl
 
 -- one turn of the loop, at the pairs `qs` of the book then
-pub fails-on : (today n i : ℕ) (ps qs : List Pair) (cells : List Cell) (category at : ℕ) (cell : Cell) → i < n
+pub fails-on : (today n i : ℕ) (ps qs : List Pair) (l : Ledger) (at : FigurePlaces) (d : DayFigures) → i < n
     → qs ≡ ps
-    → category ≡ pairAt qs i .terms .category
-    → at ≡ place today category
-    → cell ≡ withFail today (pairAt qs i) (getD cells at none)
-    → failsPosted today (placesFrom n (i + 1) ps) (set cells at cell) ≡ failsPosted today (placesFrom n i ps) cells
-fails-on today n i ps qs cells category at cell h same of-pair placed made =
+    → at ≡ placesOf today (pairAt qs i .terms)
+    → d ≡ withFail today (pairAt qs i) (figuresAt at l)
+    → failsPosted today (placesFrom n (i + 1) ps) (storedAt at d l) ≡ failsPosted today (placesFrom n i ps) l
+fails-on today n i ps qs l at d h same placed made =
     let left : suc (n - suc i) ≡ n - i = omega arith in
     let next : i + 1 ≡ suc i = omega arith in
-    rw (made, placed, of-pair, same, next)
-    (sym (fail-one today (pairAt ps i) (withBlanks (n - suc i) (drop (suc i) ps)) cells _ refl)
-    ∙ ap (λ (rest : List Pair). failsPosted today rest cells) (sym (next-place (n - suc i) i ps))
-    ∙ ap (λ (m : ℕ). failsPosted today (withBlanks m (drop i ps)) cells) left)
+    rw (made, placed, same, next)
+    (sym (fail-one today (pairAt ps i) (withBlanks (n - suc i) (drop (suc i) ps)) l _ refl)
+    ∙ ap (λ (rest : List Pair). failsPosted today rest l) (sym (next-place (n - suc i) i ps))
+    ∙ ap (λ (m : ℕ). failsPosted today (withBlanks m (drop i ps)) l) left)
 
 -- ---- all of them
 
 -- all places where a test passes, and none where it fails
-fails-chosen : (t : Bool) (today : ℕ) (ps : List Pair) (cells : List Cell)
-    → failsPosted today (placesFrom (only t openLimit) 0 ps) cells ≡ cond t (failsPosted today (places ps) cells) cells
+fails-chosen : (t : Bool) (today : ℕ) (ps : List Pair) (l : Ledger)
+    → failsPosted today (placesFrom (only t openLimit) 0 ps) l ≡ cond t (failsPosted today (places ps) l) l
 unfolding places failPostings
-fails-chosen true today ps cells = refl
-fails-chosen false today ps cells = refl
+fails-chosen true today ps l = refl
+fails-chosen false today ps l = refl
 
 -- no more places than there are
 pub places-bound : (today : ℕ) (r : Closing) → Closes today r → r .places ≤ openLimit
 places-bound today r k = rw (k .places) (only-le (isAccepted (answer (onDay today) Call.Close)) openLimit)
 
 -- after the last place none is left
-pub fails-end : (today n i : ℕ) (ps : List Pair) (cells : List Cell) → n ≤ i → failsPosted today (placesFrom n i ps) cells ≡ cells
+pub fails-end : (today n i : ℕ) (ps : List Pair) (l : Ledger) → n ≤ i → failsPosted today (placesFrom n i ps) l ≡ l
 unfolding failPostings
-fails-end today n i ps cells h =
+fails-end today n i ps l h =
     let none-left : n - i ≡ 0 = omega arith in
-    ap (λ (m : ℕ). failsPosted today (withBlanks m (drop i ps)) cells) none-left
+    ap (λ (m : ℕ). failsPosted today (withBlanks m (drop i ps)) l) none-left
+
+-- a book on another day
+abbrev pub withToday : Book → ℕ → Book
+withToday b today = record {
+  pairs = b .pairs;
+  cells = b .cells;
+  summaries = b .summaries;
+  today = today;
+  «last_id» = b .«last_id»;
+}
 
 -- the contract, from what the loop leaves
 pub close-applied : (b now : Book) (r : Closing) (i : ℕ) → Closes (b .today) r → r .places ≤ i
     → now .pairs ≡ b .pairs → now .«last_id» ≡ b .«last_id»
-    → failsPosted (b .today) (placesFrom (r .places) i (b .pairs)) (now .cells)
-    ≡ failsPosted (b .today) (placesFrom (r .places) 0 (b .pairs)) (b .cells)
-    → Applied b Call.Close (record {
-      book = record { pairs = now .pairs; cells = now .cells; today = r .today; «last_id» = now .«last_id» };
-      answer = r .answer;
-    })
+    → failsPosted (b .today) (placesFrom (r .places) i (b .pairs)) (ledger now)
+    ≡ failsPosted (b .today) (placesFrom (r .places) 0 (b .pairs)) (ledger b)
+    → Applied b Call.Close (record { book = withToday now (r .today); answer = r .answer })
 unfolding answer viewOf postings pairsAfter afterAccepted
-close-applied b now r i k end ps last cells =
+close-applied b now r i k end ps last figures =
     let n = answer (onDay (b .today)) Call.Close in
     let t = isAccepted n in
     applied b Call.Close (afterAccepted b Call.Close) _ (r .answer) n
@@ -103,9 +111,9 @@ close-applied b now r i k end ps last cells =
     (λ h. refl)
     (k .number)
     (ps ∙ either-way t (b .pairs))
-    (sym (fails-end (b .today) (r .places) i (b .pairs) (now .cells) end)
-    ∙ cells
-    ∙ ap (λ (m : ℕ). failsPosted (b .today) (placesFrom m 0 (b .pairs)) (b .cells)) (k .places)
-    ∙ fails-chosen t (b .today) (b .pairs) (b .cells))
+    (sym (fails-end (b .today) (r .places) i (b .pairs) (ledger now) end)
+    ∙ figures
+    ∙ ap (λ (m : ℕ). failsPosted (b .today) (placesFrom m 0 (b .pairs)) (ledger b)) (k .places)
+    ∙ fails-chosen t (b .today) (b .pairs) (ledger b))
     (k .today-after)
     (last ∙ either-way t (b .«last_id»))

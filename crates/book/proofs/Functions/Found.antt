@@ -7,9 +7,10 @@ use native.Mathlib.Omega.{arith}
 use mathlib.Core.Path.{_≡_, refl, sym, ap, ap₂, _∙_}
 use mathlib.Core.Bool.{Bool, true, false, cond}
 use mathlib.Core.List.{List, [], _∷_}
-use lib.ListN.{getD, set, List·getD-eq-default}
+use lib.ListN.{set, List·getD-eq-default}
 use Rattle.book.specs.Pairs.{Pair, blank, isOpen}
-use Rattle.book.specs.Figures.{Cell, Posting, none, place, partPosting, post, postAll}
+use Rattle.book.specs.Figures.{Posting, partPosting}
+use Rattle.book.specs.DayFigures.{DayFigures}
 use Rattle.book.specs.Answers.{Call, Answer, View, answerNumber, isAccepted, answer}
 use Rattle.book.specs.Calls.{Book, places, isOpenPair, placeOf, pairOf, viewOf, answerOf}
 use Rattle.book.specs.Calls.{postings, pairsAfter, afterAccepted}
@@ -19,23 +20,30 @@ use Rattle.book.specs.declared.changing.Changed.{Changed}
 use Rattle.book.specs.declared.changing.Settled.{Settled}
 use Rattle.book.proofs.Theorems.Places.{pairAt}
 use Rattle.book.proofs.Theorems.Allowed.{allowed}
-use Rattle.book.proofs.Functions.Handed.{either-way, set-chosen, post-chosen, applied}
+use Rattle.book.proofs.Functions.Ledger.{Ledger, ledger, posted, FigurePlaces, placesOf, figuresAt, storedAt, post-chosen}
+use Rattle.book.proofs.Functions.Handed.{either-way, set-chosen, applied}
 use Rattle.book.proofs.Functions.Search.{Ended, ended-at-first, ended-with-none, place-pair, length-places}
 use Rattle.book.proofs.Functions.Opened.{found-is-this}
 
 -- ---- one place of the book
 
--- the book with the pair q at place j, and with these cells
-abbrev bookWith : Book → ℕ → Pair → List Cell → Book
-bookWith b j q cells = record { pairs = set (b .pairs) j q; cells = cells; today = b .today; «last_id» = b .«last_id» }
+-- the book with the pair q at place j, and with these cells and summaries
+abbrev bookWith : Book → ℕ → Pair → Ledger → Book
+bookWith b j q l = record {
+  pairs = set (b .pairs) j q;
+  cells = l .cells;
+  summaries = l .summaries;
+  today = b .today;
+  «last_id» = b .«last_id»;
+}
 
--- the book where place j is set to what a call makes of the pair q, and the cells take what it posts
+-- the book where place j is set to what a call makes of the pair q, and cells and summaries take what it posts
 abbrev changedAt : Book → (Pair → List Posting) → Call → ℕ → Pair → Book
-changedAt b posts call j q = bookWith b j (pairAfter (b .today) q call) (postAll post (posts q) (b .cells))
+changedAt b posts call j q = bookWith b j (pairAfter (b .today) q call) (posted (posts q) (ledger b))
 
 -- ---- the calls on the open pair of an id
 
--- Such a call looks at today and at that pair alone, is refused where there is none, and changes its place and the cells.
+-- Such a call looks at today and at that pair alone, is refused where there is none, and changes its place and the figures.
 pub record OnPair (b : Book) (id : ℕ) (posts : Pair → List Posting) (call : Call) : Type 0 where
   pub same-answer : (v w : View) → v .today ≡ w .today → v .pair id ≡ w .pair id → answer v call ≡ answer w call
   pub needs-open : (v : View) → answer v call ≡ 0 → isOpen (v .pair id) ≡ true
@@ -130,14 +138,14 @@ module _ (b : Book) (id i : ℕ) (ended : Ended (isOpenPair id) (b .pairs) i) wh
         sym (on-pair .effect
         ∙ ap₂ (changedAt b posts call) (ended-at-first (isOpenPair id) (b .pairs) i ended e) (this-pair e))
 
-    -- What the call hands back, where its place and the cells are what an accepted call leaves, and else the same.
-    on-pair-applied : (a : Answer) (q : Pair) (cells : List Cell) → answerNumber a ≡ number
+    -- What the call hands back, where its place and the figures are what an accepted call leaves, and else the same.
+    on-pair-applied : (a : Answer) (q : Pair) (l : Ledger) → answerNumber a ≡ number
         → q ≡ cond (isAccepted number) (pairAfter (b .today) p call) p
-        → cells ≡ cond (isAccepted number) (postAll post (posts p) (b .cells)) (b .cells)
-        → Applied b call (record { book = bookWith b i q cells; answer = a })
-    on-pair-applied a q cells n e f =
+        → l ≡ cond (isAccepted number) (posted (posts p) (ledger b)) (ledger b)
+        → Applied b call (record { book = bookWith b i q l; answer = a })
+    on-pair-applied a q l n e f =
         let t = isAccepted number in
-        applied b call (changedAt b posts call i p) (bookWith b i q cells) a number
+        applied b call (changedAt b posts call i p) (bookWith b i q l) a number
         found-answer
         changed-accepted
         n
@@ -146,21 +154,21 @@ module _ (b : Book) (id i : ℕ) (ended : Ended (isOpenPair id) (b .pairs) i) wh
         (either-way t (b .today))
         (either-way t (b .«last_id»))
 
-  -- Hold, lack and cancel: that place is set, and the cells stay the same.
+  -- Hold, lack and cancel: that place is set, and the figures stay the same.
   pub change-applied : {call : Call} {r : Changed} → OnPair b id nothingPosted call → Changes (b .today) p call r
-      → Applied b call (record { book = bookWith b i (r .pair) (b .cells); answer = r .answer })
+      → Applied b call (record { book = bookWith b i (r .pair) (ledger b); answer = r .answer })
   change-applied {call} {r} on-pair c =
-      on-pair-applied nothingPosted call on-pair (r .answer) (r .pair) (b .cells) (c .number) (c .pair)
-      (either-way (isAccepted (answer (atFound (b .today) p) call)) (b .cells))
+      on-pair-applied nothingPosted call on-pair (r .answer) (r .pair) (ledger b) (c .number) (c .pair)
+      (either-way (isAccepted (answer (atFound (b .today) p) call)) (ledger b))
 
-  -- Settle: so is the cell of today and the pair's category.
-  pub settle-applied : {part at : ℕ} {r : Settled} → at ≡ place (b .today) (p .terms .category)
-      → Settles (b .today) id part p (getD (b .cells) at none) r
+  -- Settle: so are today's figures that the pair is counted in.
+  pub settle-applied : (at : FigurePlaces) {part : ℕ} {r : Settled} → at ≡ placesOf (b .today) (p .terms)
+      → Settles (b .today) id part p (figuresAt at (ledger b)) r
       → Applied b (Call.Settle id part)
-      (record { book = bookWith b i (r .pair) (set (b .cells) at (r .cell)); answer = r .answer })
-  settle-applied {part} {at} {r} e c =
+      (record { book = bookWith b i (r .pair) (storedAt at (r .figures) (ledger b)); answer = r .answer })
+  settle-applied at {part} {r} e c =
       on-pair-applied (partPosted (b .today) part) (Call.Settle id part) (settle-on-pair b id part)
-      (r .answer) (r .pair) (set (b .cells) at (r .cell)) (c .number) (c .pair)
-      (ap (set (b .cells) at) (c .cell)
-      ∙ post-chosen (isAccepted (answer (atFound (b .today) p) (Call.Settle id part))) (partPosting (b .today) part p)
-      (b .cells) at e)
+      (r .answer) (r .pair) (storedAt at (r .figures) (ledger b)) (c .number) (c .pair)
+      (ap (λ (d : DayFigures). storedAt at d (ledger b)) (c .figures)
+      ∙ post-chosen (isAccepted (answer (atFound (b .today) p) (Call.Settle id part))) (partPosting (b .today) part p) at
+      (ledger b) e)

@@ -1,28 +1,29 @@
 -- An enter: the place where the search for a free one ended, and the loop over the late days. The book is full exactly
--- where the pair of that place is open. On each day, what the days left post to the cells now is what all late days post
--- to the cells at the start. Assumes nothing.
+-- where the pair of that place is open. On each day, what the days left post to the figures now is what all late days post
+-- to those at the start. Assumes nothing.
 use Prim.Native.Nat.{ℕ, zero, suc, _+_, _-_, _≤_, _<_}
-use native.Mathlib.Nat.{le-refl}
 use native.Mathlib.Omega.{arith, by-contra}
-use mathlib.Core.Path.{_≡_, refl, sym, ap, _∙_}
+use mathlib.Core.Path.{_≡_, refl, sym, ap, ap₂, _∙_}
 use mathlib.Core.Bool.{Bool, true, false, cond, not}
 use mathlib.Core.List.{List}
-use lib.Dec.{leb, eqb}
-use lib.ListN.{getD, set}
+use lib.Dec.{leb}
+use lib.ListN.{set}
 use borrow.Author.Tests.{le-leb, lt-leb}
 use Rattle.book.specs.Limits.{dayLimit, openLimit}
 use Rattle.book.specs.Sums.{only}
-use Rattle.book.specs.SideOfFail.{Sides, sidesWhenLate}
 use Rattle.book.specs.Pairs.{Entry, Terms, Pair, inRange, blank, isOpen, terms, entered}
-use Rattle.book.specs.Figures.{Cell, none, failFigures, lateFrom, latePostings, place, addCell, post, postAll}
+use Rattle.book.specs.Figures.{lateFrom, latePostings, post, postAll}
+use Rattle.book.specs.Summaries.{postSummaries}
+use Rattle.book.specs.DayFigures.{DayFigures, withLateFail}
 use Rattle.book.specs.Answers.{Call, refused, answer, isAccepted}
 use Rattle.book.specs.Calls.{Book, places, openCount, viewOf, answerOf, postings, pairsAfter, afterAccepted}
-use Rattle.book.specs.AtPlace.{atFree, Enters, lateCells, withLate}
+use Rattle.book.specs.AtPlace.{atFree, Enters, latePostingsFrom, withLate}
 use Rattle.book.specs.Applied.{Applied}
 use Rattle.book.specs.declared.entering.Entered.{Entered}
 use Rattle.book.proofs.Theorems.Places.{pairAt, failing-found, fewer-pass}
 use Rattle.book.proofs.Theorems.Allowed.{allowed}
-use Rattle.book.proofs.Functions.Handed.{either-way, set-chosen, applied}
+use Rattle.book.proofs.Functions.Ledger.{Ledger, ledger, posted, FigurePlaces, placesOf, figuresAt, storedAt}
+use Rattle.book.proofs.Functions.Handed.{either-way, set-chosen, same-parts, applied}
 use Rattle.book.proofs.Functions.Search.{Ended, ended-at-first, ended-with-none, length-places}
 
 -- the pair leaves its place free
@@ -81,6 +82,7 @@ abbrev enteredAt : Book → Entry → ℕ → Book
 enteredAt b e k = record {
   pairs = set (b .pairs) k (entered (terms e));
   cells = postAll post (latePostings (b .today) (terms e)) (b .cells);
+  summaries = postAll postSummaries (latePostings (b .today) (terms e)) (b .summaries);
   today = b .today;
   «last_id» = e .id;
 }
@@ -96,59 +98,69 @@ entered-accepted b e i d h =
 
 -- ---- the late days
 
--- one turn of the loop
-pub late-on : (today day : ℕ) (e : Terms) (cells : List Cell) (to : Sides) (at : ℕ) (cell : Cell) → day < today
-    → to ≡ sidesWhenLate (e .kind) (e .side)
-    → at ≡ place day (e .category)
-    → cell ≡ addCell (getD cells at none) (failFigures to (e .amount) (eqb day (e .isd)))
-    → lateCells today (day + 1) e (set cells at cell) ≡ lateCells today day e cells
-unfolding lateFrom post
-late-on today day e cells to at cell h sides placed made =
+-- the figures once the days from `day` to yesterday have gained the fail of a late pair
+abbrev pub latePosted : ℕ → ℕ → Terms → Ledger → Ledger
+latePosted today day t l = posted (latePostingsFrom today day t) l
+
+-- one turn of the loop, for the pair p
+pub late-on : (today day : ℕ) (p : Pair) (l : Ledger) (at : FigurePlaces) (d : DayFigures) → day < today
+    → at ≡ placesOf day (p .terms)
+    → d ≡ withLateFail day p (figuresAt at l)
+    → latePosted today (day + 1) (p .terms) (storedAt at d l) ≡ latePosted today day (p .terms) l
+unfolding lateFrom post postSummaries
+late-on today day p l at d h placed made =
     let left : today - day ≡ suc (today - suc day) = omega arith in
     let next : day + 1 ≡ suc day = omega arith in
-    rw (made, placed, sides, next)
-    (ap (λ (n : ℕ). postAll post (lateFrom n day e) cells) (sym left))
+    rw (made, placed, next)
+    (ap (λ (n : ℕ). posted (lateFrom n day (p .terms)) l) (sym left))
 
 -- today no late day is left
-pub late-end : (today day : ℕ) (e : Terms) (cells : List Cell) → today ≤ day → lateCells today day e cells ≡ cells
+pub late-end : (today day : ℕ) (t : Terms) (l : Ledger) → today ≤ day → latePosted today day t l ≡ l
 unfolding lateFrom
-late-end today day e cells h =
+late-end today day t l h =
     let none-left : today - day ≡ 0 = omega arith in
-    ap (λ (n : ℕ). postAll post (lateFrom n day e) cells) none-left
+    ap (λ (n : ℕ). posted (lateFrom n day t) l) none-left
 
--- all late days where a test passes, and none where it fails
-late-chosen : (t : Bool) (today : ℕ) (e : Entry) (cells : List Cell)
-    → lateCells today (cond t (e .isd) today) (terms e) cells ≡ cond t (postAll post (latePostings today (terms e)) cells) cells
-late-chosen true today e cells = refl
-late-chosen false today e cells = late-end today today (terms e) cells (le-refl today)
+-- All late days of the pair entered where the enter is accepted, and none where it is refused.
+late-chosen : (n today : ℕ) (e : Entry) (old pair : Pair) (from : ℕ) (l : Ledger)
+    → pair ≡ cond (isAccepted n) (entered (terms e)) old
+    → from ≡ cond (isAccepted n) (e .isd) today
+    → latePosted today from (pair .terms) l ≡ cond (isAccepted n) (posted (latePostings today (terms e)) l) l
+late-chosen zero today e old pair from l same first =
+    ap₂ (λ (d : ℕ) (p : Pair). latePosted today d (p .terms) l) first same
+late-chosen (suc n) today e old pair from l same first = late-end today from (pair .terms) l (omega arith)
 
 -- ---- all of it
 
 -- the book once the pair is in its place, and before the late days
 abbrev pub placed : Book → ℕ → Entered → Book
-placed b i r = record { pairs = set (b .pairs) i (r .pair); cells = b .cells; today = b .today; «last_id» = r .«last_id» }
+placed b i r = record {
+  pairs = set (b .pairs) i (r .pair);
+  cells = b .cells;
+  summaries = b .summaries;
+  today = b .today;
+  «last_id» = r .«last_id»;
+}
 
 -- The contract, from the place where the search ended and what `Entry::enter` made of it
 pub enter-applied : (b : Book) (e : Entry) (r : Entered) (i : ℕ) → Ended isFree (b .pairs) i
     → Enters (b .today) (b .«last_id») (pairAt (b .pairs) i) e r
-    → Applied b (Call.Enter e) (record { book = withLate e (r .«late_from») (placed b i r); answer = r .answer })
+    → Applied b (Call.Enter e) (record { book = withLate (r .pair .terms) (r .«late_from») (placed b i r); answer = r .answer })
 enter-applied b e r i d k =
     let n = answer (atFree (b .today) (b .«last_id») (pairAt (b .pairs) i)) (Call.Enter e) in
     let t = isAccepted n in
-    applied b (Call.Enter e) (enteredAt b e i) (withLate e (r .«late_from») (placed b i r)) (r .answer) n
+    applied b (Call.Enter e) (enteredAt b e i) (withLate (r .pair .terms) (r .«late_from») (placed b i r)) (r .answer) n
     (answer-free b i d e)
     (entered-accepted b e i d)
     (k .number)
     (ap (set (b .pairs) i) (k .pair) ∙ set-chosen blank t (b .pairs) i (entered (terms e)))
-    (ap (λ (from : ℕ). lateCells (b .today) from (terms e) (b .cells)) (k .late) ∙ late-chosen t (b .today) e (b .cells))
+    (late-chosen n (b .today) e (pairAt (b .pairs) i) (r .pair) (r .«late_from») (ledger b) (k .pair) (k .late))
     (either-way t (b .today))
     (k .highest)
 
 -- where no day is late, the book stays as it is
-pub not-late : (b : Book) (e : Entry) (from : ℕ) → b .today ≤ from → withLate e from b ≡ b
-not-late b e from h =
-    ap (λ (cells : List Cell). record { pairs = b .pairs; cells = cells; today = b .today; «last_id» = b .«last_id» })
-    (late-end (b .today) from (terms e) (b .cells) h)
+pub not-late : (b : Book) (t : Terms) (from : ℕ) → b .today ≤ from → withLate t from b ≡ b
+not-late b t from h = same-parts refl (late-end (b .today) from t (ledger b) h) refl refl
 
 -- a day is late only for an accepted enter, and so on one of the 64 days
 pub late-running : (today last : ℕ) (p : Pair) (e : Entry) (r : Entered) → Enters today last p e r → r .«late_from» < today

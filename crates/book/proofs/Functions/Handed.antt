@@ -6,11 +6,10 @@ use mathlib.Core.Bool.{Bool, true, false, cond}
 use mathlib.Core.List.{List}
 use lib.ListN.{getD, set}
 use lib.Seq.{set-getD}
-use Rattle.book.specs.Pairs.{Pair}
-use Rattle.book.specs.Figures.{Cell, Posting, none, place, addCell, post}
 use Rattle.book.specs.Answers.{Call, Answer, answerNumber, isAccepted}
 use Rattle.book.specs.Calls.{Book, answerOf, afterAccepted, after}
 use Rattle.book.specs.Applied.{Handed, Applied}
+use Rattle.book.proofs.Functions.Ledger.{ledger}
 
 -- ---- what a test chooses
 
@@ -25,29 +24,28 @@ pub set-chosen : {A : Type 0} (d : A) (t : Bool) (xs : List A) (i : ℕ) (x : A)
 set-chosen d true xs i x = refl
 set-chosen d false xs i x = set-getD xs i d
 
--- the cell of a posting set to itself with its figures where the test passes, and else to itself
-pub post-chosen : (t : Bool) (x : Posting) (cells : List Cell) (at : ℕ) → at ≡ place (x .day) (x .terms .category)
-    → set cells at (cond t (addCell (getD cells at none) (x .figures)) (getD cells at none)) ≡ cond t (post x cells) cells
-unfolding post
-post-chosen t x cells at e = rw e (set-chosen none t cells _ _)
-
 -- ---- the parts of a book
 
 -- a book is the same where each of its parts is
-pub same-parts : {ps qs : List Pair} {cs ds : List Cell} {t u l m : ℕ} → ps ≡ qs → cs ≡ ds → t ≡ u → l ≡ m
-    → _≡_ {A = Book} (record { pairs = ps; cells = cs; today = t; «last_id» = l })
-    (record { pairs = qs; cells = ds; today = u; «last_id» = m })
-same-parts p c t l = rw (p, c, t, l)
+pub same-parts : {a b : Book} → a .pairs ≡ b .pairs → ledger a ≡ ledger b → a .today ≡ b .today → a .«last_id» ≡ b .«last_id»
+    → a ≡ b
+same-parts p l t n = λ i. record {
+  pairs = p i;
+  cells = l i .cells;
+  summaries = l i .summaries;
+  today = t i;
+  «last_id» = n i;
+}
 
 -- one of two books, part by part
 one-of : (t : Bool) (a b r : Book)
     → r .pairs ≡ cond t (a .pairs) (b .pairs)
-    → r .cells ≡ cond t (a .cells) (b .cells)
+    → ledger r ≡ cond t (ledger a) (ledger b)
     → r .today ≡ cond t (a .today) (b .today)
     → r .«last_id» ≡ cond t (a .«last_id») (b .«last_id»)
     → r ≡ cond t a b
-one-of true a b r p c t l = same-parts p c t l
-one-of false a b r p c t l = same-parts p c t l
+one-of true a b r p l t n = same-parts p l t n
+one-of false a b r p l t n = same-parts p l t n
 
 -- two books that are the same where the call is accepted stand for each other
 same-accepted : (n : ℕ) (b : Book) {new other : Book} → (n ≡ 0 → new ≡ other)
@@ -62,13 +60,13 @@ pub applied : (b : Book) (call : Call) (new r : Book) (answer : Answer) (n : ℕ
     → (n ≡ 0 → new ≡ afterAccepted b call)
     → answerNumber answer ≡ n
     → r .pairs ≡ cond (isAccepted n) (new .pairs) (b .pairs)
-    → r .cells ≡ cond (isAccepted n) (new .cells) (b .cells)
+    → ledger r ≡ cond (isAccepted n) (ledger new) (ledger b)
     → r .today ≡ cond (isAccepted n) (new .today) (b .today)
     → r .«last_id» ≡ cond (isAccepted n) (new .«last_id») (b .«last_id»)
     → Applied b call (record { book = r; answer = answer })
 unfolding after
-applied b call new r answer n rules same number pairs cells today last =
+applied b call new r answer n rules same number pairs figures today last =
     ap₂ {C = Handed} (λ (m : ℕ) (a : Book). record { number = m; book = a }) (number ∙ sym rules)
-    (one-of (isAccepted n) new b r pairs cells today last
+    (one-of (isAccepted n) new b r pairs figures today last
     ∙ same-accepted n b same
     ∙ ap (λ (m : ℕ). cond (isAccepted m) (afterAccepted b call) b) (sym rules))

@@ -18,14 +18,18 @@ use Rattle.book.proofs.Theorems.Sums.{tests, and-true, and-left, and-ri
 abbrev pub IsCategory : ℕ → Type 0
 IsCategory c = (1 ≤ c) × (c ≤ 9)
 
+-- the code of a participant
+abbrev pub IsCode : ℕ → Type 0
+IsCode c = (1 ≤ c) × (c ≤ largestCode)
+
 -- each value of an enter is in its range
 pub record Ranges (e : Entry) : Type 0 where
   pub id : (1 ≤ e .id) × (e .id ≤ largestId)
   pub category : IsCategory (e .category)
   pub isd : e .isd < dayLimit
   pub amount : (1 ≤ e .amount) × (e .amount ≤ largestAmount)
-  pub deliverer : (1 ≤ e .deliverer) × (e .deliverer ≤ largestCode)
-  pub receiver : (1 ≤ e .receiver) × (e .receiver ≤ largestCode)
+  pub deliverer : IsCode (e .deliverer)
+  pub receiver : IsCode (e .receiver)
 
 -- an enter: its id is above all accepted ones, and fewer than 1,024 pairs are open
 pub record EnterAllowed (v : View) (e : Entry) : Type 0 where

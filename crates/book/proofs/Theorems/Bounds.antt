@@ -26,7 +26,7 @@ use Rattle.book.specs.Answers.{Call}
 use Rattle.book.specs.History.{Measure, number, value, dayOf, pairs, twoSIs, twoMore}
 use Rattle.book.specs.Counted.{replayed, posts, life, postedOn, counted, highestId, viewOfCalls, column, isdValue}
 use Rattle.book.specs.Exact.{most}
-use Rattle.book.proofs.Theorems.Sums.{only-le, only-mono, total-le, all-append, total-all-le, total-times}
+use Rattle.book.proofs.Theorems.Sums.{only-le, only-mono, total-le, all-map-both, all-append, total-all-le, total-times}
 use Rattle.book.proofs.Theorems.Allowed.{Ranges, EnterAllowed, Allowed, allowed}
 use Rattle.book.proofs.Theorems.Proper.{Proper}
 use Rattle.book.proofs.Theorems.Lived.{failsIn}
@@ -77,13 +77,10 @@ most-of-pairs number h P w a =
     let y = pairs-most h P in
     omega arith
 most-of-pairs value h P w a =
-    let x = total-times w 20000000000 (pairs h) (each (pairs h) a (ranges h P)) in
+    let x = total-times w 20000000000 (pairs h)
+    (all-map-both _ Ranges _ (λ e l r. let k = r .amount .1 in omega arith) (pairs h) a (ranges h P)) in
     let y = pairs-most h P in
     omega arith
-  where
-    each : (es : List Entry) → All (λ e. w e ≤ 2 * e .amount + 0) es → All Ranges es → All (λ e. w e ≤ 20000000000) es
-    each [] a r = tt
-    each (e ∷ es) a r = (let l = a .0 in let k = r .0 .amount .1 in omega arith, each es (a .1) (r .1))
 
 -- ---- ISD value is a part of the fails
 

@@ -1,16 +1,17 @@
--- What the pairs' lives give on a day stays below the cap, so each figure of each row is their plain sum. And each answer
--- and each pair's amount is that of the accepted calls. Assumes nothing.
-use Prim.Native.Nat.{ℕ, zero, suc, _+_, _≤_, _<_}
+-- What the pairs' lives give on a day stays below the cap, so each figure of each row and of each participant's summary is
+-- their plain sum. And each answer and each pair's amount is that of the accepted calls. Assumes nothing.
+use Prim.Native.Nat.{ℕ, zero, suc, _+_, _*_, _≤_, _<_}
 use native.Mathlib.Omega.{arith}
 use mathlib.Core.Path.{_≡_, refl, ap, _∙_}
 use mathlib.Core.Bool.{Bool}
 use mathlib.Core.List.{List}
 use lib.ListN.{length-replicate}
 use lib.Dec.{eqb}
-use Rattle.book.specs.Limits.{dayLimit, cellCount}
+use Rattle.book.specs.Limits.{dayLimit, cellCount, summaryCount}
 use Rattle.book.specs.Sums.{only, capped}
-use Rattle.book.specs.Pairs.{Entry}
+use Rattle.book.specs.Pairs.{Entry, terms}
 use Rattle.book.specs.Figures.{Cell, none, Posting, place, cellAt}
+use Rattle.book.specs.Summaries.{noSummary, summaryOf, summaryPlace, summaryAt}
 use Rattle.book.specs.Answers.{Call}
 use Rattle.book.specs.Calls.{freshBook}
 use Rattle.book.specs.Rows.{cellOf}
@@ -24,10 +25,16 @@ use Rattle.book.specs.Counted.{
   cash,
   isdValue,
   column,
+  SummaryColumn,
+  summaryTotal,
+  summaryFails,
+  summaryColumn,
+  namesParticipant,
   postedOn,
   counted,
   journal,
   RowsAreLives,
+  SummariesAreLives,
   AnswersAreLives,
   AmountsAreKept,
 }
@@ -38,9 +45,10 @@ use Rattle.book.proofs.Theorems.Proper.{Proper}
 use Rattle.book.proofs.Theorems.Lived.{Lived, settledIn, failsIn}
 use Rattle.book.proofs.Theorems.Lives.{lives}
 use Rattle.book.proofs.Theorems.Run.{answer-same, kept-fresh, kept, all-same}
-use Rattle.book.proofs.Theorems.Cells.{column-none, cell-stores, cells-together, categories-all}
+use Rattle.book.proofs.Theorems.Cells.{column-adds, cell-stores, cells-together, categories-all}
+use Rattle.book.proofs.Theorems.Participants.{summary-adds, summary-stores}
 use Rattle.book.proofs.Theorems.Bounds.{ranges, most-of-pairs, IsdPart, life-part, counted-le}
-use Rattle.book.proofs.Theorems.Posted.{cells-journal, journal-in-time, journal-lives}
+use Rattle.book.proofs.Theorems.Posted.{cells-journal, summaries-journal, journal-in-time, journal-lives}
 
 -- ---- what the pairs give on a day
 
@@ -73,36 +81,39 @@ counted-most m selects h P d = most-of-pairs m h P _ (all-map (Lived h) _ each (
         let c = posted-add (settledIn m) (failsIn m) d (life h (e .id)) in
         omega arith
 
--- the measure of a figure
-abbrev measureOf : Column → Measure
-measureOf (settled m) = m
-measureOf (securities m) = m
-measureOf (cash m) = m
-measureOf isdValue = value
-
--- a figure of a posting is a part of what settled and failed
-column-part : (figure : Column) (x : Posting) → IsdPart x
-    → column figure (x .figures) ≤ allIn (measureOf figure) (x .figures)
-column-part (settled m) x l = omega arith
-column-part (securities m) x l = omega arith
-column-part (cash m) x l = omega arith
-column-part isdValue x l = omega arith
-
--- so each figure is no more than the most of a row
-column-most : (figure : Column) (selects : Entry → Bool) (h : List Call) → Proper h → (d : ℕ)
-    → counted (column figure) selects h d ≤ most (measureOf figure)
-column-most figure selects h P d =
-    let m = measureOf figure in
-    let a = counted-le (column figure) (allIn m) selects h d (λ i. all-map IsdPart _ (column-part figure) (life h i) (life-part h i)) in
+-- so is each figure that is a part of these
+part-most : (f : Cell → ℕ) (m : Measure) → ((x : Posting) → IsdPart x → f (x .figures) ≤ allIn m (x .figures))
+    → (selects : Entry → Bool) (h : List Call) → Proper h → (d : ℕ) → counted f selects h d ≤ most m
+part-most f m part selects h P d =
+    let a = counted-le f (allIn m) selects h d (λ i. all-map IsdPart _ part (life h i) (life-part h i)) in
     let b = counted-most m selects h P d in
     omega arith
 
 -- ---- each figure of each row is the plain sum of the lives
 
--- the most of a row is below the cap
-below-cap : (m : Measure) (n : ℕ) → n ≤ most m → capped n ≡ n
-below-cap number n l = omega arith
-below-cap value n l = omega arith
+-- the measure of a figure
+abbrev columnMeasure : Column → Measure
+columnMeasure (settled m) = m
+columnMeasure (securities m) = m
+columnMeasure (cash m) = m
+columnMeasure isdValue = value
+
+-- the figure is a part of what settled and failed
+column-part : (figure : Column) (x : Posting) → IsdPart x
+    → column figure (x .figures) ≤ allIn (columnMeasure figure) (x .figures)
+column-part (settled m) x l = omega arith
+column-part (securities m) x l = omega arith
+column-part (cash m) x l = omega arith
+column-part isdValue x l = omega arith
+
+-- what rows can total over some of the 64 days is below the cap
+pub below-cap : (m : Measure) (days n : ℕ) → days ≤ dayLimit → n ≤ days * most m → capped n ≡ n
+below-cap number days n l h = omega arith
+below-cap value days n l h = omega arith
+
+-- so is what one can total
+row-below-cap : (m : Measure) (n : ℕ) → n ≤ most m → capped n ≡ n
+row-below-cap m n l = below-cap m 1 n (omega arith) (omega arith)
 
 module _ (calls : List Call) (figure : Column) (d : ℕ) (l : d < dayLimit) where
   -- what the lives give to the figure in a category
@@ -115,7 +126,7 @@ module _ (calls : List Call) (figure : Column) (d : ℕ) (l : d < dayLimit) wher
   stored c r =
       ap (λ cells. column figure (cellAt cells d c)) (cells-journal calls)
       ∙ cell-stores figure d c l r (journal freshBook calls) (freshBook .cells) (length-replicate cellCount none)
-      (ap (column figure) (all-same cellCount (place d c) none) ∙ column-none figure)
+      (ap (column figure) (all-same cellCount (place d c) none) ∙ column-adds figure .empty)
       (journal-in-time calls _ kept-fresh)
       ∙ ap capped (journal-lives calls (column figure) (λ t. counts c (t .category)) d)
 
@@ -123,8 +134,9 @@ module _ (calls : List Call) (figure : Column) (d : ℕ) (l : d < dayLimit) wher
   exact : (k : ℕ) → capped (given k) ≡ given k
   unfolding given
   exact k =
-      below-cap (measureOf figure) _
-      (column-most figure (λ e. counts k (e .category)) (acceptedOf calls) (kept calls .proper) d)
+      row-below-cap (columnMeasure figure) _
+      (part-most (column figure) (columnMeasure figure) (column-part figure) (λ e. counts k (e .category)) (acceptedOf calls)
+      (kept calls .proper) d)
 
   -- category 0 is given what the nine are
   together : sumFrom given 1 9 ≡ given 0
@@ -156,6 +168,40 @@ categories-sum calls figure d l =
     let b = together calls figure d l in
     let c = sum-same _ (given calls figure d l) 1 9 (λ c k n. row-lives calls figure d l c (omega arith)) in
     omega arith
+
+-- ---- so is each figure of each participant's summary
+
+-- the measure of a participant's figure
+abbrev summaryMeasure : SummaryColumn → Measure
+summaryMeasure (summaryTotal m) = m
+summaryMeasure (summaryFails m) = m
+
+-- the figure is a part of what settled and failed
+summary-part : (figure : SummaryColumn) (x : Posting) → IsdPart x
+    → summaryColumn figure (summaryOf (x .figures)) ≤ allIn (summaryMeasure figure) (x .figures)
+summary-part (summaryTotal number) x l = omega arith
+summary-part (summaryTotal value) x l = omega arith
+summary-part (summaryFails number) x l = omega arith
+summary-part (summaryFails value) x l = omega arith
+
+-- so what the pairs give to it is no more than the most of a row
+pub summary-most : (figure : SummaryColumn) (selects : Entry → Bool) (h : List Call) → Proper h → (d : ℕ)
+    → counted (λ c. summaryColumn figure (summaryOf c)) selects h d ≤ most (summaryMeasure figure)
+summary-most figure selects h P d =
+    part-most (λ c. summaryColumn figure (summaryOf c)) (summaryMeasure figure) (summary-part figure) selects h P d
+
+-- Each figure of each participant's summary is the plain sum of the lives of the pairs that name it.
+pub summaries-lives : SummariesAreLives
+unfolding freshBook
+summaries-lives calls figure d code l low high =
+    ap (λ summaries. summaryColumn figure (summaryAt summaries d code)) (summaries-journal calls)
+    ∙ summary-stores figure d code l (low, high) (journal freshBook calls) (freshBook .summaries)
+    (length-replicate summaryCount noSummary)
+    (ap (summaryColumn figure) (all-same summaryCount (summaryPlace d code) noSummary) ∙ summary-adds figure .empty)
+    (journal-in-time calls _ kept-fresh)
+    ∙ ap capped (journal-lives calls (λ c. summaryColumn figure (summaryOf c)) (namesParticipant code) d)
+    ∙ row-below-cap (summaryMeasure figure) _
+    (summary-most figure (λ e. namesParticipant code (terms e)) (acceptedOf calls) (kept calls .proper) d)
 
 -- ---- answers and amounts
 

@@ -1,7 +1,7 @@
 -- The places: what a search finds, by induction on the list, and what holds of every place after one is set. Assumes
 -- nothing.
 use Prim.Native.Nat.{ℕ, zero, suc, _+_, _≤_, _<_}
-use native.Mathlib.Nat.{not-suc-le-zero, le-of-suc-le-suc, le-refl}
+use native.Mathlib.Nat.{not-suc-le-zero, le-of-suc-le-suc}
 use native.Mathlib.Omega.{arith}
 use mathlib.Core.Path.{_≡_, refl, sym, ap, _∙_}
 use mathlib.Core.Bool.{Bool, true, false, cond, not}
@@ -14,7 +14,7 @@ use Rattle.book.specs.Limits.{openLimit}
 use Rattle.book.specs.Sums.{only, total}
 use Rattle.book.specs.Pairs.{Pair, blank, isOpen}
 use Rattle.book.specs.Calls.{withBlanks, places, firstPlace}
-use Rattle.book.proofs.Theorems.Sums.{tests, only-le}
+use Rattle.book.proofs.Theorems.Sums.{tests, passing-most}
 
 -- the pair of a place
 abbrev pub pairAt : List Pair → ℕ → Pair
@@ -83,11 +83,6 @@ failing-found test (p ∷ ps) h = go (test p) h (failing-found test ps)
         → cond (not t) zero (suc (firstPlace (λ p. not (test p)) ps)) < suc (length ps)
     go true h k = let i = k (omega arith) in omega arith
     go false h k = omega arith
-
--- no more pairs pass than there are
-passing-most : (test : Pair → Bool) (ps : List Pair) → total (λ p. only (test p) 1) ps ≤ length ps
-passing-most test [] = le-refl 0
-passing-most test (p ∷ ps) = let i = passing-most test ps in let j = only-le (test p) 1 in omega arith
 
 -- where one that doesn't pass is found, fewer pass than there are places
 pub fewer-pass : (test : Pair → Bool) (ps : List Pair) → firstPlace (λ p. not (test p)) ps < length ps

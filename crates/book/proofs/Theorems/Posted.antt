@@ -1,25 +1,27 @@
--- For every list of calls the cells are the sum of the journal, all postings of the journal are in time, and the journal
--- is the sum of the pairs' lives. Each is shown from call to call, along a book that mirrors its accepted calls. Assumes
--- nothing.
+-- For every list of calls cells and summaries are the sum of the journal, all postings of the journal are in time, and the
+-- journal is the sum of the pairs' lives. Each is shown from call to call, along a book that mirrors its accepted calls.
+-- Assumes nothing.
 use Prim.Native.Nat.{ℕ, zero, suc, _+_, _-_, _≤_, _<_, suc-le-suc}
 use native.Mathlib.Nat.{zero-lt-suc}
 use native.Mathlib.Omega.{arith}
-use mathlib.Core.Path.{_≡_, refl, sym, ap, _∙_}
+use mathlib.Core.Path.{_≡_, refl, sym, ap, _∙_, subst}
 use mathlib.Core.Bool.{Bool, true, false, cond}
 use mathlib.Core.List.{List, [], _∷_, _++_}
 use lib.ListN.{length}
 use lib.Dec.{leb, eqb}
 use Rattle.book.specs.Limits.{dayLimit}
 use Rattle.book.specs.Sums.{only, All}
-use Rattle.book.specs.Pairs.{Terms, Pair, isOpen, terms}
+use Rattle.book.specs.Pairs.{Entry, Terms, Pair, isOpen, terms}
 use Rattle.book.specs.Figures.{Cell, Posting, lateFrom, failing, failPosting, failPostings, post, postAll}
+use Rattle.book.specs.Summaries.{postSummaries}
 use Rattle.book.specs.Answers.{Call, isAccepted}
 use Rattle.book.specs.Calls.{Book, answerOf, postings, afterAccepted, after}
 use Rattle.book.specs.History.{acceptedCalls, pairs}
 use Rattle.book.specs.Balance.{State, step, run, afterCalls}
-use Rattle.book.specs.Counted.{replayed, postedFor, counted, viewOfCalls, journal, CellsAreJournal, JournalIsLives}
+use Rattle.book.specs.Counted.{replayed, postedFor, counted, viewOfCalls, journal}
+use Rattle.book.specs.Counted.{CellsAreJournal, SummariesAreJournal, JournalIsLives}
 use Rattle.book.proofs.Theorems.Sums.{and-true, total-append, all-map, all-append}
-use Rattle.book.proofs.Theorems.Allowed.{IsCategory, Allowed, allowed}
+use Rattle.book.proofs.Theorems.Allowed.{Ranges, Allowed, allowed}
 use Rattle.book.proofs.Theorems.Proper.{Proper, open-replayed}
 use Rattle.book.proofs.Theorems.Lived.{Lived}
 use Rattle.book.proofs.Theorems.Lives.{lives}
@@ -27,13 +29,13 @@ use Rattle.book.proofs.Theorems.Places.{pairAt, places-all}
 use Rattle.book.proofs.Theorems.Mirror.{once, pairIn, found}
 use Rattle.book.proofs.Theorems.Run.{Mirrors, answer-same, Kept, kept-fresh, kept-step}
 use Rattle.book.proofs.Theorems.Journal.{livesOn, HasTerms, gained}
-use Rattle.book.proofs.Theorems.Cells.{InTime}
+use Rattle.book.proofs.Theorems.Arrays.{InRange, InTime}
 
 -- what a call adds before the later postings of a journal
 abbrev withPosted : Book → Call → List Posting → List Posting
 withPosted b c later = cond (isAccepted (answerOf b c)) (postings b c ++ later) later
 
--- ---- the cells are the sum of the journal
+-- ---- cells and summaries are the sum of the journal
 
 -- postings in two pieces are taken piece by piece
 postAll-append : {S : Type 0} (take : Posting → S → S) (xs ys : List Posting) (s : S)
@@ -41,51 +43,63 @@ postAll-append : {S : Type 0} (take : Posting → S → S) (xs ys : List Posting
 postAll-append take [] ys s = refl
 postAll-append take (x ∷ xs) ys s = postAll-append take xs ys (take x s)
 
--- a call's own postings are taken first
-cells-step : (s : State) (c : Call) (later : List Posting)
-    → postAll post later (step s c .book .cells) ≡ postAll post (withPosted (s .book) c later) (s .book .cells)
-unfolding step after afterAccepted
-cells-step s c later = go (isAccepted (answerOf (s .book) c))
-  where
-    go : (t : Bool) → postAll post later (cond t (afterAccepted (s .book) c) (s .book) .cells)
-        ≡ postAll post (cond t (postings (s .book) c ++ later) later) (s .book .cells)
-    go true = sym (postAll-append post (postings (s .book) c) later (s .book .cells))
-    go false = refl
+-- A part of the book that takes the postings of each accepted call.
+module _ {S : Type 0} (take : Posting → S → S) (part : Book → S)
+    (takes : (b : Book) (c : Call) → part (afterAccepted b c) ≡ postAll take (postings b c) (part b)) where
+  -- a call's own postings are taken first
+  part-step : (s : State) (c : Call) (later : List Posting)
+      → postAll take later (part (step s c .book)) ≡ postAll take (withPosted (s .book) c later) (part (s .book))
+  unfolding step after
+  part-step s c later = go (isAccepted (answerOf (s .book) c))
+    where
+      go : (t : Bool) → postAll take later (part (cond t (afterAccepted (s .book) c) (s .book)))
+          ≡ postAll take (cond t (postings (s .book) c ++ later) later) (part (s .book))
+      go true =
+          ap (postAll take later) (takes (s .book) c)
+          ∙ sym (postAll-append take (postings (s .book) c) later (part (s .book)))
+      go false = refl
 
--- from any book on
-cells-journal-from : (calls : List Call) (s : State)
-    → run s calls .book .cells ≡ postAll post (journal (s .book) calls) (s .book .cells)
-unfolding run journal step
-cells-journal-from [] s = refl
-cells-journal-from (c ∷ calls) s =
-    cells-journal-from calls (step s c) ∙ cells-step s c (journal (after (s .book) c) calls)
+  -- it takes the journal, from any book on
+  journal-taken : (calls : List Call) (s : State)
+      → part (run s calls .book) ≡ postAll take (journal (s .book) calls) (part (s .book))
+  unfolding run journal step
+  journal-taken [] s = refl
+  journal-taken (c ∷ calls) s = journal-taken calls (step s c) ∙ part-step s c (journal (after (s .book) c) calls)
 
--- The cells are the sum of the journal.
+-- The cells are the sum of the journal,
 pub cells-journal : CellsAreJournal
-unfolding afterCalls
-cells-journal calls = cells-journal-from calls _
+unfolding afterCalls afterAccepted
+cells-journal calls = journal-taken post (λ b. b .cells) (λ b c. refl) calls _
+
+-- and so are the summaries.
+pub summaries-journal : SummariesAreJournal
+unfolding afterCalls afterAccepted
+summaries-journal calls = journal-taken postSummaries (λ b. b .summaries) (λ b c. refl) calls _
 
 -- ---- the postings of a call are in time
 
--- an open pair is of one of the nine categories
-category-of : (h : List Call) → Proper h → (i : ℕ) (p : Pair) → replayed h i ≡ p → isOpen p ≡ true → IsCategory (p .terms .category)
-category-of h P i p same now =
-    let O = once h P i (ap isOpen same ∙ now) in
-    let e = ap (λ q. q .terms .category) same in
-    let t = ap (λ x. x .category) (O .terms) in
-    let low = O .ranges .category .0 in
-    let high = O .ranges .category .1 in
-    (omega arith, omega arith)
+-- an enter in range
+entered-in-range : (e : Entry) → Ranges e → InRange (terms e)
+entered-in-range e r =
+    let deliverer = r .deliverer in
+    let receiver = r .receiver in
+    record { category = r .category; deliverer = search; receiver = search }
 
--- late days are
-late-in-time : (t : Terms) → IsCategory (t .category) → (n day : ℕ) → day + n ≤ dayLimit → All InTime (lateFrom n day t)
+-- an open pair is
+open-in-range : (h : List Call) → Proper h → (i : ℕ) (p : Pair) → replayed h i ≡ p → isOpen p ≡ true → InRange (p .terms)
+open-in-range h P i p same now =
+    let O = once h P i (ap isOpen same ∙ now) in
+    subst InRange (sym (O .terms) ∙ ap (λ q. q .terms) same) (entered-in-range (O .entry) (O .ranges))
+
+-- late days are in time
+late-in-time : (t : Terms) → InRange t → (n day : ℕ) → day + n ≤ dayLimit → All InTime (lateFrom n day t)
 unfolding lateFrom
 late-in-time t r zero day l = tt
 late-in-time t r (suc n) day l = ((omega arith, r), late-in-time t r n (suc day) (omega arith))
 
 -- the fails of a day are
 fails-in-time : (day : ℕ) → day < dayLimit → (ps : List Pair)
-    → ((j : ℕ) → j < length ps → isOpen (pairAt ps j) ≡ true → IsCategory (pairAt ps j .terms .category))
+    → ((j : ℕ) → j < length ps → isOpen (pairAt ps j) ≡ true → InRange (pairAt ps j .terms))
     → All InTime (failPostings day ps)
 unfolding failPostings failPosting
 fails-in-time day l [] r = tt
@@ -104,21 +118,21 @@ postings-in-time (Call.Enter e) b h M P A =
     let t = M .today in
     let l = A .running in
     let i = A .ranges .isd in
-    late-in-time (terms e) (A .ranges .category) (b .today - e .isd) (e .isd) (omega arith)
+    late-in-time (terms e) (entered-in-range e (A .ranges)) (b .today - e .isd) (e .isd) (omega arith)
 postings-in-time (Call.Hold id side on) b h M P A = tt
 postings-in-time (Call.Lack id lack) b h M P A = tt
 postings-in-time (Call.Settle id part) b h M P A =
     let t = M .today in
     let l = A .running in
     let F = found (b .pairs) h (M .placed) P id (open-replayed h id (A .isOpen) .0) in
-    let r = category-of h P id (pairIn (b .pairs) id) (F .replay) (F .isOpen) in
+    let r = open-in-range h P id (pairIn (b .pairs) id) (F .replay) (F .isOpen) in
     rw (places-all (b .pairs) (M .placed .room)) ((omega arith, r), tt)
 postings-in-time (Call.Cancel id) b h M P A = tt
 postings-in-time Call.Close b h M P A =
     let t = M .today in
     rw (places-all (b .pairs) (M .placed .room))
     (fails-in-time (b .today) (omega arith) (b .pairs)
-    (λ j k o. category-of h P (pairAt (b .pairs) j .terms .id) (pairAt (b .pairs) j) (M .placed .same j k o) o))
+    (λ j k o. open-in-range h P (pairAt (b .pairs) j .terms .id) (pairAt (b .pairs) j) (M .placed .same j k o) o))
 
 -- ---- one call of a journal
 

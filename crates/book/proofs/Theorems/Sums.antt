@@ -1,6 +1,6 @@
 -- Sums over lists and over runs of numbers, by induction on the list and on the run, and what a test says of its numbers.
 -- Assumes nothing.
-use Prim.Native.Nat.{ℕ, zero, suc, _+_, _*_, _≤_, _<_, zero-le}
+use Prim.Native.Nat.{ℕ, zero, suc, _+_, _*_, _≤_, _<_, zero-le, suc-le-suc}
 use native.Mathlib.Nat.{not-suc-le-zero, le-of-suc-le-suc, le-refl, suc-mul}
 use native.Mathlib.Omega.{arith}
 use mathlib.Core.Path.{_≡_, refl, sym, ap, ap₂, _∙_}
@@ -63,6 +63,11 @@ only-add false n m = refl
 pub only-swap : (s t : Bool) (n : ℕ) → only s (only t n) ≡ only t (only s n)
 only-swap true t n = refl
 only-swap false t n = sym (only-zero t)
+
+-- a number under two tests together is the number under one and then the other
+pub only-both : (s t : Bool) (n : ℕ) → only (s && t) n ≡ only s (only t n)
+only-both true t n = refl
+only-both false t n = refl
 
 -- ---- sums over a list
 
@@ -127,21 +132,46 @@ module _ {A : Type 0} where
 
   -- ---- where a fact holds of each element
 
+  -- what holds of everything holds of each element
+  pub all-of : (P : A → Type 0) → ((x : A) → P x) → (l : List A) → All P l
+  all-of P h [] = tt
+  all-of P h (x ∷ l) = (h x, all-of P h l)
+
   -- what follows from it holds of each element
   pub all-map : (P Q : A → Type 0) → ((x : A) → P x → Q x) → (l : List A) → All P l → All Q l
   all-map P Q h [] a = tt
   all-map P Q h (x ∷ l) a = (h x (a .0), all-map P Q h l (a .1))
+
+  -- what follows from two facts holds of each element
+  pub all-map-both : (P Q R : A → Type 0) → ((x : A) → P x → Q x → R x) → (l : List A) → All P l → All Q l → All R l
+  all-map-both P Q R h [] a b = tt
+  all-map-both P Q R h (x ∷ l) a b = (h x (a .0) (b .0), all-map-both P Q R h l (a .1) (b .1))
 
   -- what holds of each element of two lists holds of each one of both together
   pub all-append : (P : A → Type 0) (l r : List A) → All P l → All P r → All P (l ++ r)
   all-append P [] r a b = b
   all-append P (x ∷ l) r a b = (a .0, all-append P l r (a .1) b)
 
+  -- what holds of each element holds at each place
+  pub all-at : (P : A → Type 0) (d : A) (l : List A) → All P l → (i : ℕ) → i < length l → P (getD l i d)
+  all-at P d [] a i inside = absurd (not-suc-le-zero inside)
+  all-at P d (x ∷ l) a zero inside = a .0
+  all-at P d (x ∷ l) a (suc i) inside = all-at P d l (a .1) i (le-of-suc-le-suc inside)
+
+  -- what holds at each place holds of each element
+  pub all-by-place : (P : A → Type 0) (d : A) (l : List A) → ((i : ℕ) → i < length l → P (getD l i d)) → All P l
+  all-by-place P d [] h = tt
+  all-by-place P d (x ∷ l) h = (h 0 (omega arith), all-by-place P d l (λ i inside. h (suc i) (suc-le-suc inside)))
+
   -- weights that are equal by it have equal sums
   pub total-all : (P : A → Type 0) (w v : A → ℕ) → ((x : A) → P x → w x ≡ v x) → (l : List A) → All P l
       → total w l ≡ total v l
   total-all P w v h [] a = refl
   total-all P w v h (x ∷ l) a = let i = total-all P w v h l (a .1) in let j = h x (a .0) in omega arith
+
+  -- a weight that is 0 by it sums to 0
+  pub total-all-none : (P : A → Type 0) (w : A → ℕ) → ((x : A) → P x → w x ≡ 0) → (l : List A) → All P l → total w l ≡ 0
+  total-all-none P w h l a = total-all P w (λ x. 0) h l a ∙ total-none (λ x. 0) (λ x. refl) l
 
   -- the weight that is larger by it has the larger sum
   pub total-all-le : (P : A → Type 0) (w v : A → ℕ) → ((x : A) → P x → w x ≤ v x) → (l : List A) → All P l
@@ -153,6 +183,11 @@ module _ {A : Type 0} where
   pub total-times : (w : A → ℕ) (k : ℕ) (l : List A) → All (λ x. w x ≤ k) l → total w l ≤ length l * k
   total-times w k [] a = omega arith
   total-times w k (x ∷ l) a = let i = total-times w k l (a .1) in let j = a .0 in let s = suc-mul (length l) k in omega arith
+
+  -- no more elements pass a test than there are
+  pub passing-most : (test : A → Bool) (l : List A) → total (λ x. only (test x) 1) l ≤ length l
+  passing-most test l =
+      let t = total-times (λ x. only (test x) 1) 1 l (all-of _ (λ x. only-le (test x) 1) l) in omega arith
 
 -- ---- sums over a run of n numbers from the first on
 

@@ -1,37 +1,33 @@
 -- The reports of a file take no more bytes than they may, whatever the file and the run of days: no number of a line has
 -- more than 20 digits. Assumes nothing.
-use Prim.Native.Nat.{ℕ, suc, _+_, _*_, _-_, _≤_, _<_}
+use Prim.Native.Nat.{ℕ, suc, _+_, _*_, _≤_, _<_}
 use native.Mathlib.Omega.{arith}
 use mathlib.Core.Path.{_≡_, refl}
 use mathlib.Core.Bool.{Bool, true, false, cond, not}
 use mathlib.Core.List.{List, [], _∷_, _++_}
 use mathlib.Core.Option.{Option, none, some, Option·map}
-use lib.Dec.{leb, ltb}
+use lib.Dec.{leb}
 use lib.ListN.{length, length-append}
 use borrow.Author.Needs.{needs}
-use borrow.Author.Tests.{leb-true, ltb-true, ltb-false, not-false}
+use borrow.Author.Tests.{leb-true}
+use Rattle.rates.specs.Stored.{capped}
 use Rattle.rates.specs.Rate.{duration as durationOf}
-use Rattle.rates.specs.Stored.{largestStored, capped}
 use Rattle.book.specs.declared.book.Book.{Book}
 use Rattle.book.specs.declared.rows.Row.{Row}
 use Rattle.book.specs.Limits.{dayLimit, categoryCount}
 use Rattle.book.specs.Sums.{All}
-use Rattle.book.specs.Answers.{isAccepted}
-use Rattle.book.specs.Rows.{Given, refusedBy, figures, isClosed}
+use Rattle.book.specs.Rows.{Given, refusedBy, figures}
 use Rattle.book.specs.History.{value}
-use Rattle.book.proofs.Theorems.Sums.{and-true, or-false}
 use Rattle.lines.specs.Bytes.{comma, lineFeed}
 use Rattle.lines.specs.Decimal.{digits, decimal}
 use Rattle.lines.specs.Grammar.{behind, joined}
-use Rattle.lines.proofs.Theorems.Decimal.{digits-most}
 use Rattle.reports.specs.Reports.{Reported, reportOf, rowsOf, sumsOf, failsIn, reportFrom, daysRefused, reportAnswer}
+use Rattle.reports.proofs.Functions.Runs.{run-given}
 use Rattle.monitor.specs.Replay.{replayOf}
-use Rattle.monitor.proofs.Theorems.Lines.{lines-from-most}
-use Rattle.monitor.specs.Texts.{faultText}
+use Rattle.monitor.specs.RunOfDays.{runOf}
 use Rattle.monitor.specs.ReportTable.{
-  Days,
   reportNames,
-  listed,
+  withCommas,
   reportFields,
   durationText,
   reportLine,
@@ -45,29 +41,18 @@ use Rattle.monitor.specs.ReportTable.{
   reportRoom,
   ReportsFit,
 }
+use Rattle.monitor.proofs.Theorems.Lines.{Stored, digitsMost, stored-digits, lines-from-most, or-fault-most}
 
 -- ---- a line
 
--- a number that 64 bits hold
-abbrev Stored : ℕ → Type 0
-Stored n = n ≤ largestStored
-
--- so many digits it may have
-abbrev digitsMost : ℕ
-digitsMost = 20
-
--- No such number has more.
-stored-digits : (n : ℕ) → Stored n → length (decimal n) ≤ digitsMost
-stored-digits n h = digits-most n 19 (omega arith)
-
--- Such numbers have as many digits each, and a comma behind them.
-listed-most : (ns : List ℕ) → All Stored ns → length (listed ns) ≤ length ns * suc digitsMost
-unfolding listed
-listed-most [] h = omega arith
-listed-most (n ∷ ns) h =
+-- Numbers that are stored have as many digits each as one may have, and a comma behind them.
+with-commas-most : (ns : List ℕ) → All Stored ns → length (withCommas ns) ≤ length ns * suc digitsMost
+unfolding withCommas
+with-commas-most [] h = omega arith
+with-commas-most (n ∷ ns) h =
     let first = stored-digits n (h .0) in
-    let others = listed-most ns (h .1) in
-    let both = length-append (decimal n) (comma ∷ listed ns) in
+    let others = with-commas-most ns (h .1) in
+    let both = length-append (decimal n) (comma ∷ withCommas ns) in
     omega arith
 
 -- A duration is no longer, absent or not.
@@ -87,10 +72,10 @@ line-most rows first last category order running small =
     let report = reportOf capped rows first last in
     let columns = reportFields first last category report in
     let hundredths = durationText (report .duration) in
-    let fields = listed-most columns (search needs) in
+    let fields = with-commas-most columns (search needs) in
     let duration = duration-most (durationOf (failsIn capped value (report .sums)) (report .sums .«isd_value»)) in
-    let front = length-append (listed columns) hundredths in
-    let line = length-append (listed columns ++ hundredths) (lineFeed ∷ []) in
+    let front = length-append (withCommas columns) hundredths in
+    let line = length-append (withCommas columns ++ hundredths) (lineFeed ∷ []) in
     omega arith
 
 -- ---- the lines of a run of days
@@ -107,10 +92,7 @@ by-answer P b first last category range days given = go (leb category categoryCo
         (cond refused (refusedBy 9) (figures (reportOf capped (rowsOf b category) first last))))
     go false s refused r = range
     go true s true r = days
-    go true s false r =
-        let run = or-false (ltb last first) (not (isClosed b last)) r in
-        let closed = and-true (ltb last (b .today)) (ltb last dayLimit) (not-false (isClosed b last) (run .1)) in
-        given (ltb-false _ _ (run .0)) (ltb-true _ _ (closed .1)) (leb-true _ _ s)
+    go true s false r = let run = run-given (b .today) first last r in given (run .0) (run .2) (leb-true _ _ s)
 
 -- A category's line is no longer, where there is one.
 given-most : (b : Book) (first last category : ℕ) → length (categoryLine b first last category) ≤ lineMost
@@ -128,18 +110,17 @@ unfolding reportsOver joined behind decimal digits
 run-most b first last =
     by-answer (λ g. length (reportNames ++ linesGiven b first last g) ≤ runMost) b first last 0 (omega arith) (omega arith)
     (λ order running small.
-    let lines = lines-from-most (categoryLine b first last) lineMost 0 (suc categoryCount) (λ category h. given-most b first last category) in
+    let lines = lines-from-most (categoryLine b first last) lineMost 0 (suc categoryCount)
+    (λ category h. given-most b first last category) in
     omega (arith, length-append reportNames (categoryLines b first last)))
 
 -- ---- the whole
 
--- The bound is below what the reports may take, and so is what is written of a faulty file.
-reports-most : (taken : Bool) (b : Book) (days : Days) → length (cond taken (reportsOf b days) faultText) ≤ reportRoom
-reports-most true b Days.AllClosed = let run = run-most b 0 (b .today - 1) in omega arith
-reports-most true b (Days.FromTo first last) = let run = run-most b first last in omega arith
-reports-most false b days = omega arith
-
--- The reports of every file fit.
+-- The reports of every file fit: the bound is below what they may take, and so is what is written of a faulty file.
 pub reports-fit : ReportsFit
 unfolding reportTableOf
-reports-fit s days = reports-most (isAccepted (replayOf s .number)) (replayOf s .book) days
+reports-fit s days =
+    let r = replayOf s in
+    let run = runOf (r .book .today) days in
+    let most = run-most (r .book) (run .first) (run .last) in
+    or-fault-most (r .number) (reportsOf (r .book) days) reportRoom (omega arith) (omega arith)

@@ -7,7 +7,6 @@ use lib.ListN.{length, length-append}
 use Rattle.book.specs.declared.book.Book.{Book}
 use Rattle.book.specs.declared.calls.Call.{Call}
 use Rattle.book.specs.Limits.{dayLimit}
-use Rattle.book.specs.Answers.{isAccepted}
 use Rattle.book.specs.Rows.{rowOf, isClosed, refusedBy, figures, rowAnswer}
 use Rattle.book.specs.Balance.{bookAfter}
 use Rattle.lines.specs.Bytes.{bytes}
@@ -17,11 +16,11 @@ use Rattle.reports.specs.RowText.{lineBound}
 use Rattle.reports.proofs.Theorems.WholeLines.{line-most}
 use Rattle.monitor.specs.Replay.{fileLimit, replayOf}
 use Rattle.monitor.specs.Demand3.{callsOf}
-use Rattle.monitor.specs.Texts.{faultText, linesFrom}
+use Rattle.monitor.specs.Texts.{linesFrom}
 use Rattle.monitor.specs.Table.{tableNames, rowLineGiven, dayLine, countLines, tableOf, tableRoom, TablesFit}
 use Rattle.monitor.proofs.Theorems.Files.{five-digits}
-use Rattle.monitor.proofs.Theorems.Lines.{lines-from-most}
 use Rattle.monitor.proofs.Theorems.Replayed.{book-of-calls, counts-most}
+use Rattle.monitor.proofs.Theorems.Lines.{lines-from-most, or-fault-most}
 
 module _ (calls : List Call) where
   -- the book that the calls leave
@@ -47,7 +46,7 @@ counts-length a r h =
 -- No table takes more.
 pub tables-fit : TablesFit
 unfolding tableOf
-tables-fit s = go (isAccepted (replayOf s .number))
+tables-fit s = or-fault-most (replayOf s .number) (tableNames ++ days ++ counts) tableRoom text-most (omega arith)
   where
     days : List ℕ
     days = linesFrom (dayLine (replayOf s .book)) 0 dayLimit
@@ -55,12 +54,11 @@ tables-fit s = go (isAccepted (replayOf s .number))
     counts : List ℕ
     counts = countLines (replayOf s .accepted) (replayOf s .refused)
 
-    go : (t : Bool) → length (cond t (tableNames ++ days ++ counts) faultText) ≤ tableRoom
-    go true =
+    text-most : length (tableNames ++ days ++ counts) ≤ tableRoom
+    text-most =
         let most : length days ≤ dayLimit * lineBound =
         lines-from-most (dayLine (replayOf s .book)) lineBound 0 dayLimit
         (λ day h. rw (book-of-calls s) (day-most (callsOf s) day (omega arith))) in
         let front = length-append tableNames days in
         let both = length-append (tableNames ++ days) counts in
         omega (arith, counts-length _ _ (counts-most s))
-    go false = omega arith

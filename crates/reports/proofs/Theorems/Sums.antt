@@ -14,13 +14,13 @@ use Rattle.book.specs.Figures.{nothing, none, place, cellAt, addFigure, addCell
 use Rattle.book.specs.Rows.{cellsFrom, cellOf, rowFrom}
 use Rattle.book.specs.Exact.{sumFrom}
 use Rattle.book.proofs.Theorems.Sums.{Each, sum-moved, sum-same, sum-of-runs, sum-of-capped}
-use Rattle.book.proofs.Theorems.Cells.{AddsUp, sum-of-cells}
+use Rattle.book.proofs.Theorems.Arrays.{AddsUp, sum-of-added}
 use Rattle.reports.specs.Reports.{sumOf, sumsOf}
 use Rattle.reports.specs.CellSums.{categorySum, allSum}
 
 -- ---- a number that is read off a cell
 
-module _ (read : Cell → ℕ) (adds : AddsUp read) (cells : List Cell) where
+module _ (read : Cell → ℕ) (adds : AddsUp none addCell read) (cells : List Cell) where
   -- what it is at a place
   abbrev at-place : ℕ → ℕ
   at-place at = read (getD cells at none)
@@ -31,7 +31,7 @@ module _ (read : Cell → ℕ) (adds : AddsUp read) (cells : List Cell) where
   unfolding place
   sum-of-day day running =
       ap capped (sum-moved at-place (λ c. read (cellAt cells day c)) (categoryCount * day) 1 categoryCount own)
-      ∙ sym (sum-of-cells read adds (cellAt cells day) 1 categoryCount)
+      ∙ sym (sum-of-added none addCell read adds (cellAt cells day) 1 categoryCount)
     where
       own : Each 1 categoryCount (λ c. (at : ℕ) → at + 1 ≡ categoryCount * day + c → at-place at ≡ read (cellAt cells day c))
       own c low high at far = let there : at ≡ place day c = omega arith in ap at-place there
@@ -40,7 +40,7 @@ module _ (read : Cell → ℕ) (adds : AddsUp read) (cells : List Cell) where
   sum-of-days : (first days : ℕ) → first + days ≤ dayLimit
       → read (allSum cells first days) ≡ capped (sumFrom (λ day. read (cellsFrom categoryCount 1 cells day)) first days)
   sum-of-days first days inside =
-      sum-of-cells read adds (λ at. getD cells at none) (categoryCount * first) (categoryCount * days)
+      sum-of-added none addCell read adds (λ at. getD cells at none) (categoryCount * first) (categoryCount * days)
       ∙ ap capped (sum-of-runs at-place categoryCount first days)
       ∙ sym (sum-of-capped (λ day. sumFrom at-place (categoryCount * day) categoryCount) first days)
       ∙ ap capped (sum-same _ _ first days (λ day low high. sum-of-day day (omega arith)))
@@ -71,7 +71,7 @@ total-added a b =
 -- each number that adds up is, in the cell `sum`, its sum over the days, up to the cap
 abbrev IsSum : Cell → (ℕ → Cell) → ℕ → ℕ → Type 0
 IsSum sum cell first days =
-    (read : Cell → ℕ) → AddsUp read → read sum ≡ capped (sumFrom (λ day. read (cell day)) first days)
+    (read : Cell → ℕ) → AddsUp none addCell read → read sum ≡ capped (sumFrom (λ day. read (cell day)) first days)
 
 module _ (sum : Cell) (cell : ℕ → Cell) (first days : ℕ) (is : IsSum sum cell first days) where
   -- then so is each figure, in number and in value,
@@ -102,7 +102,7 @@ unfolding cellOf
 category-rows cells first days zero sum own summed = absurd (own refl)
 category-rows cells first days (suc c) sum own summed =
     ap rowFrom summed
-    ∙ row-sums _ _ first days (λ read adds. sum-of-cells read adds (λ day. cellAt cells day (suc c)) first days)
+    ∙ row-sums _ _ first days (λ read adds. sum-of-added none addCell read adds (λ day. cellAt cells day (suc c)) first days)
 
 -- and that of the cells of all nine is the sums of the rows of category 0.
 pub all-rows : (cells : List Cell) (first days category : ℕ) (sum : Cell) → first + days ≤ dayLimit → category ≡ 0

@@ -1,5 +1,4 @@
--- `place` meets its contract: cutting the day and the category down before the sum leaves the smaller of the sum and the
--- last place the same. Assumes nothing.
+-- `place` meets its contract, by what `day_place` ensures of any width. Assumes nothing.
 use borrow.Author.Needs.{needs}
 use Rattle.book.specs.Figures.{place}
 use Rattle.book.proofs.cells.place.Statement.{statement}
@@ -7,19 +6,7 @@ use Rattle.book.proofs.cells.place.Tie as tie
 
 returns : tie.Need-returns
 unfolding place
-returns c = record { value = search needs; bound = search needs }
+returns c = c .day-place .ensures
 
 pub place-spec : {M : Type 1} → statement M
-place-spec =
-    tie.close
-    (tie.spec
-    (λ c κs. search needs)
-    (λ c κs. search needs)
-    (λ c. search needs)
-    (λ c κs. search needs)
-    (λ c. search needs)
-    (λ c. search needs)
-    (λ c. search needs)
-    (λ c. search needs)
-    (λ c κs. search needs)
-    returns)
+place-spec = tie.close (tie.spec (λ c κs. search needs) returns)

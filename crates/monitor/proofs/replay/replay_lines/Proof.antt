@@ -10,10 +10,11 @@ use lib.ListN.{length}
 use borrow.Author.Needs.{needs}
 use Rattle.book.specs.declared.at_place.Sought.{Sought}
 use Rattle.book.specs.Limits.{openLimit}
-use Rattle.book.specs.AtPlace.{lateCells, isSought}
 use Rattle.book.specs.Applied.{Applied}
+use Rattle.book.specs.AtPlace.{isSought}
+use Rattle.book.proofs.Functions.Ledger.{ledger, same-places}
 use Rattle.book.proofs.Functions.Search.{lastPlace, Searched, Ended, searched-start, searched-on, ended}
-use Rattle.book.proofs.Functions.Free.{late-on}
+use Rattle.book.proofs.Functions.Free.{latePosted, late-on}
 use Rattle.book.proofs.Functions.Closed.{failsPosted, placesFrom, fails-on}
 use Rattle.book.proofs.Functions.InPlace.{late-within, places-within, all-fails, madeIn, place-applied}
 use Rattle.lines.proofs.Theorems.Texts.{next-place}
@@ -41,30 +42,30 @@ Inv-loop2 text book counts at call today sought i₀ i = Searched (isSought soug
 abbrev μ-loop2 : tie.MeasureT-loop2
 μ-loop2 text book counts at call today sought i₀ i = lastPlace - i
 
--- the days left post to the cells now what all late days post to those at the start
+-- the days left post to the figures now what all late days post to those at the start
 abbrev Inv-loop3 : tie.InvT-loop3
-Inv-loop3 text book₀ counts at today i cell-at left next answer day₀ book day =
+Inv-loop3 text book₀ counts at today i cell-at deliverer-at receiver-at left next answer day₀ book day =
     (day₀ ≤ day)
     × (book .pairs ≡ book₀ .pairs)
     × (book .«last_id» ≡ book₀ .«last_id»)
-    × (lateCells today day (next .terms) (book .cells) ≡ lateCells today day₀ (next .terms) (book₀ .cells))
+    × (latePosted today day (next .terms) (ledger book) ≡ latePosted today day₀ (next .terms) (ledger book₀))
 
 -- how many days are left
 abbrev μ-loop3 : tie.MeasureT-loop3
-μ-loop3 text book₀ counts at today i cell-at left next answer day₀ book day = today - day
+μ-loop3 text book₀ counts at today i cell-at deliverer-at receiver-at left next answer day₀ book day = today - day
 
--- the places left post to the cells now what all places post to those at the start
+-- the places left post to the figures now what all places post to those at the start
 abbrev Inv-loop4 : tie.InvT-loop4
-Inv-loop4 text book₀ counts at today i cell-at left answer day places n₀ book n =
+Inv-loop4 text book₀ counts at today i cell-at deliverer-at receiver-at left answer day places n₀ book n =
     (places ≤ openLimit)
     × (book .pairs ≡ book₀ .pairs)
     × (book .«last_id» ≡ book₀ .«last_id»)
-    × (failsPosted today (placesFrom places n (book₀ .pairs)) (book .cells)
-    ≡ failsPosted today (placesFrom places 0 (book₀ .pairs)) (book₀ .cells))
+    × (failsPosted today (placesFrom places n (book₀ .pairs)) (ledger book)
+    ≡ failsPosted today (placesFrom places 0 (book₀ .pairs)) (ledger book₀))
 
 -- how many places are left
 abbrev μ-loop4 : tie.MeasureT-loop4
-μ-loop4 text book₀ counts at today i cell-at left answer day places n₀ book n = places - n
+μ-loop4 text book₀ counts at today i cell-at deliverer-at receiver-at left answer day places n₀ book n = places - n
 
 -- the lines that are left lead to what the file leads to
 abbrev Inv-loop : tie.InvT-loop
@@ -106,19 +107,26 @@ loop3-holds c = (omega arith, refl, refl, refl)
 -- a late day is one of the 64
 add-day : tie.Need-add-day Inv-loop2 μ-loop2 Inv-loop3 μ-loop3 Inv-loop4 μ-loop4 Inv-loop μ-loop
 add-day c =
-    let days = c .before .before .before .before in
-    omega (arith, late-within _ (days .before .before .before .at-place .ensures) (omega arith))
+    let days = c .before .before .before .before .before .before .before .before .before .before .before in
+    omega (arith, late-within _ (days .before .before .before .before .before .before .at-place .ensures) (omega arith))
 
--- after a turn: the day's cell has gained the pair's fail
+-- after a turn: the day's figures have gained the pair's fail
 loop3-again : tie.Need-loop3-again Inv-loop2 μ-loop2 Inv-loop3 μ-loop3 Inv-loop4 μ-loop4 Inv-loop μ-loop
 loop3-again c =
-    let placed = c .before .before in
-    let now = placed .before .before .loop3 in (
+    let made = c .before .before .before in
+    let receiver = made .before .before .before .before in
+    let deliverer = receiver .before in
+    let cell = deliverer .before in
+    let days = cell .before .before in
+    let left = days .before .before .before .before .before .before .at-place .result in
+    let now = days .loop3 in (
       omega arith,
       now .inv .1,
       now .inv .2,
-      late-on _ (now .day) _ (now .book .cells) _ _ _ (omega arith) refl (placed .cell-place2 .ensures .value)
-          (c .add-late .ensures)
+      late-on _ (now .day) (left .pair) (ledger (now .book)) _ _ (omega arith)
+          (same-places _ _ (cell .cell-place2 .ensures .value) (deliverer .deliverer-place2 .ensures .value)
+          (receiver .receiver-place2 .ensures .value))
+          (made .add-late .ensures)
           ∙ now .inv .3,
     )
 
@@ -126,30 +134,39 @@ loop3-again c =
 
 -- at the start, all places are left
 loop4-holds : tie.Need-loop4-holds Inv-loop2 μ-loop2 Inv-loop3 μ-loop3 Inv-loop4 μ-loop4 Inv-loop μ-loop
-loop4-holds c = (places-within _ (c .before .before .before .before .at-place .ensures), refl, refl, refl)
+loop4-holds c =
+    let done = c .before .before .before .before .before .before .before in
+    (places-within _ (done .at-place .ensures), refl, refl, refl)
 
--- after a turn: the cell of the place's pair is closed
+-- after a turn: the figures of the place's pair are closed
 loop4-again : tie.Need-loop4-again Inv-loop2 μ-loop2 Inv-loop3 μ-loop3 Inv-loop4 μ-loop4 Inv-loop μ-loop
 loop4-again c =
-    let placed = c .before .before in
-    let now = placed .before .before .before .loop4 in (
+    let made = c .before .before .before in
+    let receiver = made .before .before .before .before in
+    let deliverer = receiver .before in
+    let cell = deliverer .before in
+    let now = cell .before .before .before .loop4 in (
       now .inv .0,
       now .inv .1,
       now .inv .2,
-      fails-on _ _ (now .n) _ (now .book .pairs) (now .book .cells) _ _ _ (omega arith) (now .inv .1) refl
-          (placed .cell-place3 .ensures .value) (c .close .ensures)
+      fails-on _ _ (now .n) _ (now .book .pairs) (ledger (now .book)) _ _ (omega arith) (now .inv .1)
+          (same-places _ _ (cell .cell-place3 .ensures .value) (deliverer .deliverer-place3 .ensures .value)
+          (receiver .receiver-place3 .ensures .value))
+          (made .close .ensures)
           ∙ now .inv .3,
     )
 
 -- ---- the call is made
 
 -- the line that it was read from
-abbrev line-of : tie.After-at-place Inv-loop2 μ-loop2 Inv-loop3 μ-loop3 Inv-loop4 μ-loop4 Inv-loop μ-loop → tie.After-line Inv-loop2 μ-loop2 Inv-loop3 μ-loop3 Inv-loop4 μ-loop4 Inv-loop μ-loop
-line-of c = c .before .before .before .before .before .before .before .before
+abbrev line-of : tie.After-at-place Inv-loop2 μ-loop2 Inv-loop3 μ-loop3 Inv-loop4 μ-loop4 Inv-loop μ-loop
+    → tie.After-line Inv-loop2 μ-loop2 Inv-loop3 μ-loop3 Inv-loop4 μ-loop4 Inv-loop μ-loop
+line-of c = c .before .before .before .before .before .before .before .before .before .before .before .before
 
 -- what it left at the place where the search ended
-abbrev place-of : tie.After-loop4 Inv-loop2 μ-loop2 Inv-loop3 μ-loop3 Inv-loop4 μ-loop4 Inv-loop μ-loop → tie.After-at-place Inv-loop2 μ-loop2 Inv-loop3 μ-loop3 Inv-loop4 μ-loop4 Inv-loop μ-loop
-place-of c = c .before .before .before .before .before .before
+abbrev place-of : tie.After-loop4 Inv-loop2 μ-loop2 Inv-loop3 μ-loop3 Inv-loop4 μ-loop4 Inv-loop μ-loop
+    → tie.After-at-place Inv-loop2 μ-loop2 Inv-loop3 μ-loop3 Inv-loop4 μ-loop4 Inv-loop μ-loop
+place-of c = c .before .before .before .before .before .before .before .before .before
 
 -- that, with the fails counted, is what becomes of the book
 made : (c : tie.After-loop4 Inv-loop2 μ-loop2 Inv-loop3 μ-loop3 Inv-loop4 μ-loop4 Inv-loop μ-loop) →
@@ -159,9 +176,11 @@ made : (c : tie.After-loop4 Inv-loop2 μ-loop2 Inv-loop3 μ-loop3 Inv-loop4 μ-l
 made c =
     let places = c .before .loop4 in
     let days = c .before .before .before .loop3 in
-    let done = c .before .before .before .before .before .before in
-    let placed = done .before .before in
-    let left = placed .before .before in
+    let done = place-of c in
+    let receiver = done .before .before .before .before in
+    let deliverer = receiver .before in
+    let cell = deliverer .before in
+    let left = cell .before .before in
     let search = left .before in
     let looks = search .before in
     let b = looks .before .before .before .before .before .before .before .loop .book in
@@ -175,7 +194,8 @@ made c =
     (subst (λ (x : Sought). Ended (isSought x) (b .pairs) i) (looks .sought .ensures)
     (ended (isSought (looks .sought .result)) (b .pairs) i (search .loop2 .inv) (left .loop2-test .came) (λ u. u .left)
     (λ u. sym (u .2 .ensures) ∙ u .3 .taken)))
-    (placed .cell-place .ensures .value)
+    (same-places _ _ (cell .cell-place .ensures .value) (deliverer .deliverer-place .ensures .value)
+    (receiver .receiver-place .ensures .value))
     (done .at-place .ensures)
 
 with-line-requires : tie.Need-with-line-requires Inv-loop2 μ-loop2 Inv-loop3 μ-loop3 Inv-loop4 μ-loop4 Inv-loop μ-loop
@@ -294,20 +314,40 @@ replay-lines-spec =
     (λ c. omega arith)
     (λ c. search needs)
     (λ c κs. search needs)
-    (λ c. omega arith)
-    (λ c. c .cell-place .ensures .bound)
+    (λ c κs. search needs)
     (λ c κs. search needs)
     (λ c. omega arith)
     (λ c. search needs)
     (λ c. omega arith)
-    (λ c. c .before .before .before .before .cell-place .ensures .bound)
+    (λ c. search needs)
+    (λ c. omega arith)
+    (λ c. search needs)
+    (λ c κs. search needs)
+    (λ c. omega arith)
+    (λ c. search needs)
+    (λ c. omega arith)
+    (λ c. search needs)
+    (λ c. omega arith)
+    (λ c. search needs)
+    (λ c. omega arith)
+    (λ c. search needs)
     loop3-holds
     (λ c κs. search needs)
-    (λ c. omega arith)
-    (λ c. c .cell-place2 .ensures .bound)
+    (λ c κs. search needs)
     (λ c κs. search needs)
     (λ c. omega arith)
-    (λ c. c .before .before .cell-place2 .ensures .bound)
+    (λ c. search needs)
+    (λ c. omega arith)
+    (λ c. search needs)
+    (λ c. omega arith)
+    (λ c. search needs)
+    (λ c κs. search needs)
+    (λ c. omega arith)
+    (λ c. search needs)
+    (λ c. omega arith)
+    (λ c. search needs)
+    (λ c. omega arith)
+    (λ c. search needs)
     add-day
     (λ c. omega arith)
     loop3-again
@@ -315,11 +355,21 @@ replay-lines-spec =
     (λ c. omega arith)
     (λ c. search needs)
     (λ c κs. search needs)
-    (λ c. omega arith)
-    (λ c. c .cell-place3 .ensures .bound)
+    (λ c κs. search needs)
     (λ c κs. search needs)
     (λ c. omega arith)
-    (λ c. c .before .before .cell-place3 .ensures .bound)
+    (λ c. search needs)
+    (λ c. omega arith)
+    (λ c. search needs)
+    (λ c. omega arith)
+    (λ c. search needs)
+    (λ c κs. search needs)
+    (λ c. omega arith)
+    (λ c. search needs)
+    (λ c. omega arith)
+    (λ c. search needs)
+    (λ c. omega arith)
+    (λ c. search needs)
     (λ c. omega arith)
     (λ c. omega arith)
     loop4-again

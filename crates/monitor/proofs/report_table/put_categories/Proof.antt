@@ -5,7 +5,7 @@ use borrow.Author.Needs.{needs}
 use Rattle.book.specs.Limits.{categoryCount}
 use Rattle.lines.proofs.Theorems.Buffers.{PutSoFar, put-none, put-size}
 use Rattle.monitor.specs.ReportTable.{categoryLine, categoryLines}
-use Rattle.monitor.proofs.Functions.Listing.{linesLeft, put-next, put-last}
+use Rattle.monitor.proofs.Functions.LinesPut.{linesLeft, put-next, put-last}
 use Rattle.monitor.proofs.report_table.put_categories.Statement.{statement}
 use Rattle.monitor.proofs.report_table.put_categories.Tie as tie
 

@@ -5,7 +5,7 @@ use Rattle.rates.specs.Rate.{hundredthsOf}
 use Rattle.lines.specs.Bytes.{lineFeed}
 use Rattle.lines.proofs.Theorems.Buffers.{put-then}
 use Rattle.reports.specs.Reports.{reportedBy}
-use Rattle.monitor.specs.ReportTable.{listed, reportFields, durationText}
+use Rattle.monitor.specs.ReportTable.{withCommas, reportFields, durationText}
 use Rattle.monitor.proofs.report_table.put_report.Statement.{statement}
 use Rattle.monitor.proofs.report_table.put_report.Tie as tie
 
@@ -18,10 +18,10 @@ returns c =
     let made = front .before .before .before in
     let given = made .before .before .args in
     let report = given .report in
-    let columns = listed (reportFields (given .first) (given .last) (given .category) (reportedBy report)) in
+    let columns = withCommas (reportFields (given .first) (given .last) (given .category) (reportedBy report)) in
     let duration = durationText (hundredthsOf (report .duration)) in
     put-then _ _ _ _ _ _ (columns ++ duration) (lineFeed ∷ [])
-    (put-then _ _ _ _ _ _ columns duration (rw (made .report-fields .ensures) at (front .put-listed .ensures))
+    (put-then _ _ _ _ _ _ columns duration (rw (made .report-fields .ensures) at (front .put-with-commas .ensures))
     (behind .put-duration .ensures))
     (end .put-byte .ensures)
 

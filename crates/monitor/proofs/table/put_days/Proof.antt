@@ -6,7 +6,7 @@ use Rattle.book.specs.Limits.{dayLimit}
 use Rattle.lines.proofs.Theorems.Buffers.{PutSoFar, put-none, put-size}
 use Rattle.monitor.specs.Texts.{linesFrom}
 use Rattle.monitor.specs.Table.{dayLine}
-use Rattle.monitor.proofs.Functions.Listing.{linesLeft, put-next, put-last}
+use Rattle.monitor.proofs.Functions.LinesPut.{linesLeft, put-next, put-last}
 use Rattle.monitor.proofs.table.put_days.Statement.{statement}
 use Rattle.monitor.proofs.table.put_days.Tie as tie
 

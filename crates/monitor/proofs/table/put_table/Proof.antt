@@ -5,7 +5,7 @@ use Rattle.book.specs.Limits.{dayLimit}
 use Rattle.lines.proofs.Theorems.Buffers.{put-then}
 use Rattle.monitor.specs.Texts.{linesFrom}
 use Rattle.monitor.specs.Table.{tableNames, dayLine, countLines, tableOf}
-use Rattle.monitor.proofs.Functions.Listing.{taken-text, faulty-text}
+use Rattle.monitor.proofs.Functions.LinesPut.{taken-text, faulty-text}
 use Rattle.monitor.proofs.table.put_table.Statement.{statement}
 use Rattle.monitor.proofs.table.put_table.Tie as tie
 

@@ -4,7 +4,7 @@ use native.Mathlib.Omega.{arith}
 use Prim.Native.Nat.{ℕ, _-_, _≤_}
 use mathlib.Core.Path.{_≡_, ap, _∙_}
 use lib.ListN.{getD}
-use Rattle.book.specs.Figures.{none, cellAt}
+use Rattle.book.specs.Figures.{none, cellAt, addCell}
 use Rattle.book.proofs.Functions.Added.{added-at-end, added-next}
 use Rattle.reports.specs.CellSums.{categorySum}
 use Rattle.reports.proofs.sums.category_sum.Statement.{statement}
@@ -20,7 +20,7 @@ abbrev μ-loop : tie.MeasureT-loop
 μ-loop first end category book sum₀ day₀ sum day = day
 
 loop-holds : tie.Need-loop-holds Inv-loop μ-loop
-loop-holds c = (omega arith, omega arith, added-at-end _ _ _ (c .none .ensures))
+loop-holds c = (omega arith, omega arith, added-at-end none addCell _ _ _ (c .none .ensures))
 
 loop-again : tie.Need-loop-again Inv-loop μ-loop
 loop-again c =
@@ -31,7 +31,7 @@ loop-again c =
     let category = start .before .before .args .category in (
       omega arith,
       omega arith,
-      added-next (λ day. cellAt cells day category) _ _ _ _ _ _ (inv .2) (c .add .ensures)
+      added-next none addCell (λ day. cellAt cells day category) _ _ _ _ _ _ (inv .2) (c .add .ensures)
           (ap (λ (k : ℕ). getD cells k none) (c .before .before .place .ensures .value))
           (omega arith)
           (omega arith),

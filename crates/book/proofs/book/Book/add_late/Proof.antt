@@ -1,42 +1,43 @@
--- `Book::add_late` meets its contract: on each day, what the days left post to the cells now is what all late days post to
--- the cells at the start. Assumes nothing.
+-- `Book::add_late` meets its contract: on each day, what the days left post to the figures now is what all late days post to
+-- those at the start. Assumes nothing.
 use Prim.Native.Nat.{_-_}
 use native.Mathlib.Omega.{arith}
-use mathlib.Core.Path.{_≡_, refl, sym, ap₂, _∙_}
+use mathlib.Core.Path.{_≡_, refl, sym, _∙_}
 use borrow.Author.Needs.{needs}
-use Rattle.book.specs.SideOfFail.{sidesWhenLate}
-use Rattle.book.specs.Pairs.{terms}
-use Rattle.book.specs.AtPlace.{lateCells}
+use Rattle.book.proofs.Functions.Ledger.{ledger, same-places}
 use Rattle.book.proofs.Functions.Handed.{same-parts}
-use Rattle.book.proofs.Functions.Free.{late-on, late-end}
+use Rattle.book.proofs.Functions.Free.{latePosted, late-on, late-end}
 use Rattle.book.proofs.book.Book.add_late.Statement.{statement}
 use Rattle.book.proofs.book.Book.add_late.Tie as tie
 
--- the days left post to the cells now what all late days post to those at the start; the rest of the book is the same
+-- the days left post to the figures now what all late days post to those at the start; the rest of the book is the same
 abbrev Inv-loop : tie.InvT-loop
-Inv-loop entry from self₀ today to day₀ self day =
+Inv-loop pair from self₀ today day₀ self day =
     (self .pairs ≡ self₀ .pairs)
     × (self .today ≡ self₀ .today)
     × (self .«last_id» ≡ self₀ .«last_id»)
-    × (lateCells today day (terms entry) (self .cells) ≡ lateCells today from (terms entry) (self₀ .cells))
+    × (latePosted today day (pair .terms) (ledger self) ≡ latePosted today from (pair .terms) (ledger self₀))
 
 -- how many days are left
 abbrev μ-loop : tie.MeasureT-loop
-μ-loop entry from self₀ today to day₀ self day = today - day
+μ-loop pair from self₀ today day₀ self day = today - day
 
--- after a turn: the day's cell has gained the pair's fail
+-- after a turn: the day's figures have gained the pair's fail
 loop-again : tie.Need-loop-again Inv-loop μ-loop
 loop-again c =
-    let at = c .before .before .before in
-    let sides = at .before .before .before in
-    let now = at .before .before .loop in
-    let start = sides .before .before .before in (
+    let made = c .before .before .before in
+    let receiver = made .before .before .before .before in
+    let deliverer = receiver .before in
+    let cell = deliverer .before in
+    let now = cell .before .before .loop in
+    let start = cell .before .before .before in (
       now .inv .0,
       now .inv .1,
       now .inv .2,
-      late-on (start .args .t1 .today) (now .day) (terms (start .args .entry)) (now .self .cells) _ _ _ (omega arith)
-          (sides .when-late .ensures ∙ ap₂ sidesWhenLate (sides .before .before .of .ensures) (sides .before .of2 .ensures))
-          (at .place .ensures .value) (c .add-fail .ensures)
+      late-on (start .args .t1 .today) (now .day) (start .args .pair) (ledger (now .self)) _ _ (omega arith)
+          (same-places _ _ (cell .cell-place .ensures .value) (deliverer .deliverer-place .ensures .value)
+          (receiver .receiver-place .ensures .value))
+          (made .add-late .ensures)
           ∙ now .inv .3,
     )
 
@@ -44,8 +45,9 @@ loop-again c =
 returns : tie.Need-returns Inv-loop μ-loop
 returns c =
     let now = c .before .loop in
-    let a = c .before .before .before .before .before .args in
-    same-parts (now .inv .0) (sym (late-end (a .t1 .today) (now .day) (terms (a .entry)) (now .self .cells) (omega arith)) ∙ now .inv .3)
+    let a = c .before .before .args in
+    same-parts (now .inv .0)
+    (sym (late-end (a .t1 .today) (now .day) (a .pair .terms) (ledger (now .self)) (omega arith)) ∙ now .inv .3)
     (now .inv .1) (now .inv .2)
 
 pub add-late-spec : {M : Type 1} → statement M
@@ -54,14 +56,21 @@ add-late-spec =
     (tie.spec
     Inv-loop
     μ-loop
-    (λ c κs. search needs)
-    (λ c κs. search needs)
-    (λ c κs. search needs)
     (λ c. (refl, refl, refl, refl))
+    (λ c κs. search needs)
+    (λ c κs. search needs)
     (λ c κs. search needs)
     (λ c. omega arith)
     (λ c. search needs)
+    (λ c. omega arith)
+    (λ c. search needs)
+    (λ c. omega arith)
+    (λ c. search needs)
     (λ c κs. search needs)
+    (λ c. omega arith)
+    (λ c. search needs)
+    (λ c. omega arith)
+    (λ c. search needs)
     (λ c. omega arith)
     (λ c. search needs)
     (λ c. omega arith)

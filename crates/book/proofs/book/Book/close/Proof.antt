@@ -1,22 +1,23 @@
--- `Book::close` meets its contract: at each turn of the loop, what the places left post to the cells now is what all places
--- post to the cells at the start. Assumes nothing.
+-- `Book::close` meets its contract: at each turn of the loop, what the places left post to the figures now is what all places
+-- post to those at the start. Assumes nothing.
 use Prim.Native.Nat.{_-_, _≤_}
 use native.Mathlib.Omega.{arith}
 use mathlib.Core.Path.{_≡_, refl, _∙_}
 use borrow.Author.Needs.{needs}
 use Rattle.book.specs.Limits.{openLimit}
+use Rattle.book.proofs.Functions.Ledger.{ledger, same-places}
 use Rattle.book.proofs.Functions.Closed.{failsPosted, placesFrom, fails-on, places-bound, close-applied}
 use Rattle.book.proofs.book.Book.close.Statement.{statement}
 use Rattle.book.proofs.book.Book.close.Tie as tie
 
--- the places left post to the cells now what all places post to those at the start; the rest of the book is the same
+-- the places left post to the figures now what all places post to those at the start; the rest of the book is the same
 abbrev Inv-loop : tie.InvT-loop
 Inv-loop self₀ today closing places answer i₀ self i =
     (places ≤ openLimit)
     × (self .pairs ≡ self₀ .pairs)
     × (self .«last_id» ≡ self₀ .«last_id»)
-    × (failsPosted today (placesFrom places i (self₀ .pairs)) (self .cells)
-    ≡ failsPosted today (placesFrom places 0 (self₀ .pairs)) (self₀ .cells))
+    × (failsPosted today (placesFrom places i (self₀ .pairs)) (ledger self)
+    ≡ failsPosted today (placesFrom places 0 (self₀ .pairs)) (ledger self₀))
 
 -- how many places are left
 abbrev μ-loop : tie.MeasureT-loop
@@ -26,16 +27,21 @@ abbrev μ-loop : tie.MeasureT-loop
 loop-holds : tie.Need-loop-holds Inv-loop μ-loop
 loop-holds c = (places-bound _ _ (c .close-of .ensures), refl, refl, refl)
 
--- after a turn: the cell of the place's pair is closed
+-- after a turn: the figures of the place's pair are closed
 loop-again : tie.Need-loop-again Inv-loop μ-loop
 loop-again c =
-    let placed = c .before .before in
-    let now = placed .before .before .before .before .loop in (
+    let made = c .before .before .before in
+    let receiver = made .before .before .before .before in
+    let deliverer = receiver .before in
+    let cell = deliverer .before in
+    let now = cell .before .before .before .loop in (
       now .inv .0,
       now .inv .1,
       now .inv .2,
-      fails-on _ _ (now .i) _ (now .self .pairs) (now .self .cells) _ _ _ (omega arith) (now .inv .1)
-          (placed .before .wide .ensures) (placed .place .ensures .value) (c .close .ensures)
+      fails-on _ _ (now .i) _ (now .self .pairs) (ledger (now .self)) _ _ (omega arith) (now .inv .1)
+          (same-places _ _ (cell .cell-place .ensures .value) (deliverer .deliverer-place .ensures .value)
+          (receiver .receiver-place .ensures .value))
+          (made .close .ensures)
           ∙ now .inv .3,
     )
 
@@ -58,9 +64,18 @@ close-spec =
     (λ c. omega arith)
     (λ c κs. search needs)
     (λ c κs. search needs)
+    (λ c κs. search needs)
+    (λ c. omega arith)
+    (λ c. search needs)
+    (λ c. omega arith)
+    (λ c. search needs)
     (λ c. omega arith)
     (λ c. search needs)
     (λ c κs. search needs)
+    (λ c. omega arith)
+    (λ c. search needs)
+    (λ c. omega arith)
+    (λ c. search needs)
     (λ c. omega arith)
     (λ c. search needs)
     (λ c. omega arith)

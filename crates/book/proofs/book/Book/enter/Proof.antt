@@ -36,7 +36,8 @@ loop-again c =
 -- what `Entry::enter` made of the place where the search ended, with the late days, is what becomes of the book
 made : (c : tie.After-enter Inv-loop μ-loop) → let loop = c .before .before .before in
     let b = loop .before .args .t1 in let e = loop .before .args .entry in let r = c .enter .result in
-    Applied b (Call.Enter e) (record { book = withLate e (r .«late_from») (placed b (loop .loop .i) r); answer = r .answer })
+    Applied b (Call.Enter e)
+    (record { book = withLate (r .pair .terms) (r .«late_from») (placed b (loop .loop .i) r); answer = r .answer })
 made c =
     let left = c .before .before in
     let loop = left .before .loop in
@@ -66,7 +67,7 @@ returns-2 c =
     let a = loop .before .args in
     let r = done .enter .result in
     subst (λ (b : Book). Applied (a .t1) (Call.Enter (a .entry)) (record { book = b; answer = r .answer }))
-    (not-late (placed (a .t1) (loop .loop .i) r) (a .entry) (r .«late_from») (omega arith)) (made done)
+    (not-late (placed (a .t1) (loop .loop .i) r) (r .pair .terms) (r .«late_from») (omega arith)) (made done)
 
 pub enter-spec : {M : Type 1} → statement M
 enter-spec =

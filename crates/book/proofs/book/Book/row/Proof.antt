@@ -8,9 +8,10 @@ use mathlib.Core.Path.{_≡_, refl, ap, _∙_}
 use mathlib.Core.List.{List}
 use lib.ListN.{getD}
 use Rattle.book.specs.Limits.{dayLimit, categoryCount}
-use Rattle.book.specs.Figures.{Cell, none, place, cellAt}
+use Rattle.book.specs.Sums.{addedFrom}
+use Rattle.book.specs.Figures.{Cell, none, place, cellAt, addCell}
 use Rattle.book.specs.Calls.{Book}
-use Rattle.book.specs.Rows.{addedFrom, cellOf, rowFrom, figures, rowAnswer}
+use Rattle.book.specs.Rows.{cellOf, rowFrom, figures, rowAnswer}
 use Rattle.book.proofs.Functions.Added.{added-at-end, added-next}
 use Rattle.book.proofs.book.Book.row.Statement.{statement}
 use Rattle.book.proofs.book.Book.row.Tie as tie
@@ -26,7 +27,7 @@ own-cell cells day (suc category) at some same = ap (λ (k : ℕ). getD cells k 
 
 -- With none left, the sum is the cell of category 0.
 all-cells : (cells : List Cell) (day category left : ℕ) (sum : Cell) → left ≤ 0 → category ≡ 0
-    → sum ≡ addedFrom (cellAt cells day) (suc left) (suc categoryCount - suc left) → sum ≡ cellOf cells day category
+    → sum ≡ addedFrom none addCell (cellAt cells day) (suc left) (suc categoryCount - suc left) → sum ≡ cellOf cells day category
 unfolding cellOf
 all-cells cells day category left sum done all summed =
     let none-left : left ≡ 0 = omega arith in
@@ -44,7 +45,7 @@ given-from b day category cell small past running same =
 -- the sum of the cells of the categories above `left`
 abbrev Inv-loop : tie.InvT-loop
 Inv-loop day category self sum₀ left₀ sum left =
-    (left ≤ categoryCount) × (sum ≡ addedFrom (cellAt (self .cells) day) (suc left) (suc categoryCount - suc left))
+    (left ≤ categoryCount) × (sum ≡ addedFrom none addCell (cellAt (self .cells) day) (suc left) (suc categoryCount - suc left))
 
 -- how many categories are left
 abbrev μ-loop : tie.MeasureT-loop
@@ -59,7 +60,7 @@ loop-again c =
     let left = start .loop .left in
     let last : left ≡ suc (left - 1) = omega arith in
     let own = ap (λ (k : ℕ). getD cells k none) (c .before .before .place2 .ensures .value) ∙ ap cell last in
-    (omega arith, added-next cell _ _ _ _ _ _ (start .loop .inv .1) (c .add .ensures) own (omega arith) (omega arith))
+    (omega arith, added-next none addCell cell _ _ _ _ _ _ (start .loop .inv .1) (c .add .ensures) own (omega arith) (omega arith))
 
 -- ---- the returns
 
@@ -107,7 +108,7 @@ row-spec =
     (λ c κs. search needs)
     returns-4
     (λ c κs. search needs)
-    (λ c. (search needs, added-at-end _ _ _ (c .none .ensures)))
+    (λ c. (search needs, added-at-end none addCell _ _ _ (c .none .ensures)))
     (λ c κs. search needs)
     (λ c. omega arith)
     (λ c. search needs)

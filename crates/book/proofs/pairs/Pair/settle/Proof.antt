@@ -24,13 +24,13 @@ returns c =
     record {
       number = sym e;
       pair = rw e (c .before .before .with-part .ensures);
-      cell = rw e (c .add-part .ensures ∙ rw (c .before .has-part-on .ensures));
+      figures = rw e (c .add-part .ensures ∙ rw (c .before .has-part-on .ensures));
     }
 
 returns-2 : tie.Need-returns-2
 returns-2 c =
     let e = sym (ap answerNumber (c .before .answer .given .1)) ∙ c .before .before .before .settle-answer .ensures in
-    record { number = e; pair = rw (sym e, not-accepted); cell = rw (sym e, not-accepted) }
+    record { number = e; pair = rw (sym e, not-accepted); figures = rw (sym e, not-accepted) }
 
 pub settle-spec : {M : Type 1} → statement M
 settle-spec =

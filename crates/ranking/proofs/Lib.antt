@@ -1,0 +1,4 @@
+pub mod Theorems
+pub mod Functions
+pub mod AnswerValues
+pub mod Worked
