@@ -13,3 +13,7 @@ capped-once a x = omega arith
 pub capped-only : (a : ℕ) (t : Bool) (x : ℕ) → capped (a + only t (capped x)) ≡ capped (a + only t x)
 capped-only a true x = capped-once a x
 capped-only a false x = refl
+
+-- for a figure that was added to nothing first
+pub capped-alone : (a x : ℕ) → capped (a + capped (0 + x)) ≡ capped (a + x)
+capped-alone a x = omega arith

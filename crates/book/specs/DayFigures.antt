@@ -1,11 +1,11 @@
 -- What a pair is counted in on a day, and what a part or a fail adds there: the contracts of the functions of
--- src/summaries.rt and src/day_figures.rt. The contracts of the calls do not mention them. Assumes nothing.
+-- src/summaries.rt, src/fails.rt and src/day_figures.rt. The contracts of the calls do not mention them. Assumes nothing.
 use Prim.Native.Nat.{ℕ, _*_}
-use mathlib.Core.Bool.{Bool, cond}
+use mathlib.Core.Bool.{Bool}
 use Rattle.book.specs.Sums.{only}
-use Rattle.book.specs.Pairs.{Pair}
-use Rattle.book.specs.Figures.{Cell, figure, nothing, latePosting, failing, failPosting, addCell}
-use Rattle.book.specs.Summaries.{Summary, summaryOf, addSummary}
+use Rattle.book.specs.Figures.{Cell, figure, nothing, none, addCell}
+use Rattle.book.specs.Summaries.{Summary, noSummary, summaryOf, addSummary}
+pub use Rattle.book.specs.declared.fails.Fail.{Fail}
 pub use Rattle.book.specs.declared.day_figures.DayFigures.{DayFigures}
 
 -- what a part adds to a summary
@@ -24,10 +24,6 @@ addFigures d c = record {
   receiver = addSummary (d .receiver) (summaryOf c);
 }
 
--- they gain a late pair's fail on that day
-abbrev pub withLateFail : ℕ → Pair → DayFigures → DayFigures
-withLateFail day p d = addFigures d (latePosting day (p .terms) .figures)
-
--- they gain a pair's fail at the close of today, where it fails
-abbrev pub withFail : ℕ → Pair → DayFigures → DayFigures
-withFail today p d = cond (failing today p) (addFigures d (failPosting today p .figures)) d
+-- a fail with these figures, as it is stored: what it adds to a cell, and to each summary
+abbrev pub storedFail : Cell → Fail
+storedFail c = record { cell = addCell none c; summary = addSummary noSummary (summaryOf c) }

@@ -6,7 +6,6 @@ use crate::book::Book;
 use crate::book::Outcome;
 use crate::calls::Answer;
 use crate::calls::Refusal;
-use crate::day_figures::DayFigures;
 use crate::limits::DAYS;
 use crate::limits::PAIRS;
 
@@ -36,7 +35,8 @@ pub(crate) fn close_of(today: u64) -> Closing
 }
 
 impl Book {
-    // Each place's pair gives its fail to the cell of its category and to its participants' summaries.
+    // Each pair that fails gives its fail, worked out one time, to the cell of its category and to its participants' summaries;
+    // any other place is passed over. The cell is stored before the summaries are read: so few numbers are held at one time.
     pub fn close(mut self) -> Outcome
         ensures { λ r. ⌜ Applied self Call.Close r ⌝ }
     {
@@ -47,22 +47,20 @@ impl Book {
         let mut i: usize = 0;
         while i < places {
             let pair = self.pairs[i];
+            i += 1;
+            if !pair.is_failing(today) {
+                continue;
+            }
+            let fail = pair.fail_at_close(today);
             let cell_at = pair.cell_place(today);
+            let cell = self.cells[cell_at];
+            self.cells[cell_at] = cell.add(fail.cell);
             let deliverer_at = pair.deliverer_place(today);
             let receiver_at = pair.receiver_place(today);
-            let figures = DayFigures {
-                cell: self.cells[cell_at],
-                deliverer: self.summaries[deliverer_at],
-                receiver: self.summaries[receiver_at],
-            };
-            let gained = figures.close(today, pair);
-            let cell = gained.cell;
-            let deliverer = gained.deliverer;
-            let receiver = gained.receiver;
-            self.cells[cell_at] = cell;
-            self.summaries[deliverer_at] = deliverer;
-            self.summaries[receiver_at] = receiver;
-            i += 1;
+            let deliverer = self.summaries[deliverer_at];
+            let receiver = self.summaries[receiver_at];
+            self.summaries[deliverer_at] = deliverer.add(fail.summary);
+            self.summaries[receiver_at] = receiver.add(fail.summary);
         }
         self.today = closing.today;
         Outcome {

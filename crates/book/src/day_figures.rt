@@ -1,24 +1,21 @@
 // What the two SIs of a pair are counted in on a day: the cell of its category, and the summaries of its two participants.
-// One function adds to all three, so that rows and summaries gain the same.
+// Where deliverer and receiver are one participant, both are its summary: each is read before either is stored, and stored
+// with the same sum, so that it gains one time. They are read and stored where the book is kept, in each loop, since a function
+// that took the book to do so would cost a copy of it.
 ghost use mathlib.Core.Path.{_≡_};
 ghost use Rattle.book.specs.Limits.{cellCount, summaryCount};
-ghost use Rattle.book.specs.Figures.{partFigures, failFigures, place};
+ghost use Rattle.book.specs.Figures.{partFigures, place};
 ghost use Rattle.book.specs.Summaries.{summaryPlace};
 ghost use Rattle.book.specs.Placed.{Placed};
-ghost use Rattle.book.specs.DayFigures.{addFigures, withLateFail, withFail};
+ghost use Rattle.book.specs.DayFigures.{addFigures};
 use crate::cells::Cell;
 use crate::cells::place;
 use crate::numbers::wide;
 use crate::pairs::Pair;
-use crate::sides::Sides;
-use crate::sides::at_close;
-use crate::sides::when_late;
 use crate::summaries::Summary;
 use crate::summaries::summary_place;
 
-// Where deliverer and receiver are one participant, both are its summary: each is read before either is stored, and stored
-// with the same sum, so that it gains one time. They are read and stored where the book is kept, in each loop, since a function
-// that took the book to do so would cost a copy of it.
+// All three, for a settle: one function adds to them, so that rows and summaries gain the same.
 pub struct DayFigures {
     pub cell: Cell,
     pub deliverer: Summary,
@@ -61,47 +58,5 @@ impl DayFigures {
             deliverer: deliverer.add_part(first, part),
             receiver: receiver.add_part(first, part),
         }
-    }
-
-    // A fail whose two SIs are worth `value` each.
-    fn add_fail(self, to: Sides, value: u64, on_isd: bool) -> DayFigures
-        ensures { λ r. ⌜ r ≡ addFigures self (failFigures to value «on_isd») ⌝ }
-    {
-        let cell = self.cell;
-        let deliverer = self.deliverer;
-        let receiver = self.receiver;
-        DayFigures {
-            cell: cell.add_fail(to, value, on_isd),
-            deliverer: deliverer.add_fail(value),
-            receiver: receiver.add_fail(value),
-        }
-    }
-
-    // A late pair's fail on a day before it was matched.
-    pub fn add_late(self, day: u64, pair: Pair) -> DayFigures
-        ensures { λ r. ⌜ r ≡ withLateFail day pair self ⌝ }
-    {
-        let terms = pair.terms;
-        let kind = terms.kind;
-        let side = terms.side;
-        self.add_fail(when_late(kind, side), terms.amount, day == wide(terms.isd))
-    }
-
-    // A pair's fail at the close of today, where it fails: the one place where a close works out its side.
-    pub fn close(self, today: u64, pair: Pair) -> DayFigures
-        ensures { λ r. ⌜ r ≡ withFail today pair self ⌝ }
-    {
-        if !pair.is_failing(today) {
-            return self;
-        }
-        let terms = pair.terms;
-        let kind = terms.kind;
-        let holds = pair.holds;
-        let lack = pair.lack;
-        self.add_fail(
-            at_close(kind, holds, lack),
-            pair.rest,
-            today == wide(terms.isd),
-        )
     }
 }

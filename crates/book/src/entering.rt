@@ -11,7 +11,6 @@ use crate::book::Book;
 use crate::book::Outcome;
 use crate::calls::Answer;
 use crate::calls::Refusal;
-use crate::day_figures::DayFigures;
 use crate::limits::CATEGORIES;
 use crate::limits::DAYS;
 use crate::limits::LARGEST_AMOUNT;
@@ -149,21 +148,16 @@ impl Book {
         let today = self.today;
         let mut day = from;
         while day < today {
+            let fail = pair.fail_when_late(day);
             let cell_at = pair.cell_place(day);
+            let cell = self.cells[cell_at];
+            self.cells[cell_at] = cell.add(fail.cell);
             let deliverer_at = pair.deliverer_place(day);
             let receiver_at = pair.receiver_place(day);
-            let figures = DayFigures {
-                cell: self.cells[cell_at],
-                deliverer: self.summaries[deliverer_at],
-                receiver: self.summaries[receiver_at],
-            };
-            let gained = figures.add_late(day, pair);
-            let cell = gained.cell;
-            let deliverer = gained.deliverer;
-            let receiver = gained.receiver;
-            self.cells[cell_at] = cell;
-            self.summaries[deliverer_at] = deliverer;
-            self.summaries[receiver_at] = receiver;
+            let deliverer = self.summaries[deliverer_at];
+            let receiver = self.summaries[receiver_at];
+            self.summaries[deliverer_at] = deliverer.add(fail.summary);
+            self.summaries[receiver_at] = receiver.add(fail.summary);
             day += 1;
         }
         self

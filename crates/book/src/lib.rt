@@ -7,6 +7,7 @@ pub mod calls; // the six calls, and what comes back
 pub mod sides; // to which side a failing pair's two SIs go
 pub mod cells; // the figures of a day and category
 pub mod summaries; // the daily summary of a participant
+pub mod fails; // a fail, and what it adds to the figures of a day
 pub mod day_figures; // what a pair is counted in on a day
 pub mod book; // the book itself: fresh, and any of the six calls
 mod entering; // enter

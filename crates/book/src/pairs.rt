@@ -227,7 +227,7 @@ impl Pair {
     }
 
     // Open, and due by today.
-    pub(crate) fn is_failing(self, today: u64) -> bool
+    pub fn is_failing(self, today: u64) -> bool
         ensures { λ r. ⌜ r ≡ failing today self ⌝ }
     {
         if !self.is_open() {

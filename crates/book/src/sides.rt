@@ -1,4 +1,4 @@
-// To which side the two SIs of a failing pair go. Document 01, 'The side of a fail at close' and call 1.
+// To which side the two SIs of a failing pair go. Document 01, 'The side of a fail at close' and call 1. Only src/fails.rt asks.
 ghost use mathlib.Core.Path.{_≡_};
 ghost use Rattle.book.specs.SideOfFail.{sidesAtClose, sidesWhenLate};
 use crate::pairs::Holds;
@@ -14,7 +14,7 @@ pub enum Sides {
 }
 
 // The side of a fail at close, the first of the rules a to f that applies.
-pub fn at_close(kind: Kind, holds: Holds, lack: Lack) -> Sides
+pub(crate) fn at_close(kind: Kind, holds: Holds, lack: Lack) -> Sides
     ensures { λ r. ⌜ r ≡ sidesAtClose kind holds lack ⌝ }
 {
     match kind {
@@ -44,7 +44,7 @@ pub fn at_close(kind: Kind, holds: Holds, lack: Lack) -> Sides
 }
 
 // The side of a late pair's fail on each day from its ISD to the day before it was matched.
-pub fn when_late(kind: Kind, side: Side) -> Sides
+pub(crate) fn when_late(kind: Kind, side: Side) -> Sides
     ensures { λ r. ⌜ r ≡ sidesWhenLate kind side ⌝ }
 {
     match kind {

@@ -66,7 +66,7 @@ impl LineCounts {
 
 // The lines of a file that is not faulty, each call made on the book that the call before left. The loop makes it in its own
 // book, element by element, since a function that took the book would cost a copy of it: it looks for the call's place and
-// stores what the call leaves there; then each late day, and at a close each place, adds its fail.
+// stores what the call leaves there; then each late day, and at a close each pair that fails, adds its fail.
 fn replay_lines(text: &[u8]) -> ReplayedFile
     requires { ⌜ isFaulty (now text) ≡ false ⌝ }
     ensures { λ r. ⌜ replayedBy r ≡ replayOf (now (text .entry)) ⌝ }
@@ -115,43 +115,36 @@ fn replay_lines(text: &[u8]) -> ReplayedFile
                 book.last_id = left.last_id;
                 let mut day = left.late_from;
                 while day < today {
+                    let fail = next.fail_when_late(day);
                     let cell_at = next.cell_place(day);
+                    let cell = book.cells[cell_at];
+                    book.cells[cell_at] = cell.add(fail.cell);
                     let deliverer_at = next.deliverer_place(day);
                     let receiver_at = next.receiver_place(day);
-                    let figures = DayFigures {
-                        cell: book.cells[cell_at],
-                        deliverer: book.summaries[deliverer_at],
-                        receiver: book.summaries[receiver_at],
-                    };
-                    let gained = figures.add_late(day, next);
-                    let cell = gained.cell;
-                    let deliverer = gained.deliverer;
-                    let receiver = gained.receiver;
-                    book.cells[cell_at] = cell;
-                    book.summaries[deliverer_at] = deliverer;
-                    book.summaries[receiver_at] = receiver;
+                    let deliverer = book.summaries[deliverer_at];
+                    let receiver = book.summaries[receiver_at];
+                    book.summaries[deliverer_at] = deliverer.add(fail.summary);
+                    book.summaries[receiver_at] = receiver.add(fail.summary);
                     day += 1;
                 }
                 let places = left.places;
                 let mut n: usize = 0;
                 while n < places {
                     let pair = book.pairs[n];
+                    n += 1;
+                    if !pair.is_failing(today) {
+                        continue;
+                    }
+                    let fail = pair.fail_at_close(today);
                     let cell_at = pair.cell_place(today);
+                    let cell = book.cells[cell_at];
+                    book.cells[cell_at] = cell.add(fail.cell);
                     let deliverer_at = pair.deliverer_place(today);
                     let receiver_at = pair.receiver_place(today);
-                    let figures = DayFigures {
-                        cell: book.cells[cell_at],
-                        deliverer: book.summaries[deliverer_at],
-                        receiver: book.summaries[receiver_at],
-                    };
-                    let gained = figures.close(today, pair);
-                    let cell = gained.cell;
-                    let deliverer = gained.deliverer;
-                    let receiver = gained.receiver;
-                    book.cells[cell_at] = cell;
-                    book.summaries[deliverer_at] = deliverer;
-                    book.summaries[receiver_at] = receiver;
-                    n += 1;
+                    let deliverer = book.summaries[deliverer_at];
+                    let receiver = book.summaries[receiver_at];
+                    book.summaries[deliverer_at] = deliverer.add(fail.summary);
+                    book.summaries[receiver_at] = receiver.add(fail.summary);
                 }
                 book.today = left.today;
                 counts = counts.with_line(answer.is_accepted());

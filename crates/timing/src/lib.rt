@@ -49,7 +49,17 @@ fn securities_on(book: Book, day: u64) -> u64 {
 // 64 closes of the full book, one for each day, so many times over: what failed on the last day.
 #[no_mangle]
 pub extern "C" fn closes(times: u64) -> u64 {
-    let start = full();
+    closes_of(full(), times)
+}
+
+// The same of a book with no open pair, in which nothing fails.
+#[no_mangle]
+pub extern "C" fn empty_closes(times: u64) -> u64 {
+    closes_of(Book::fresh(), times)
+}
+
+// The 64 closes of a book so many times over.
+fn closes_of(start: Book, times: u64) -> u64 {
     let mut last: u64 = 0;
     let mut n: u64 = 0;
     while n < times {

@@ -10,7 +10,7 @@ use Rattle.book.specs.Limits.{openLimit}
 use Rattle.book.specs.Sums.{only}
 use Rattle.book.specs.Pairs.{Pair}
 use Rattle.book.specs.Figures.{failing, failPosting, failPostings}
-use Rattle.book.specs.DayFigures.{DayFigures, withFail}
+use Rattle.book.specs.DayFigures.{DayFigures, Fail, storedFail}
 use Rattle.book.specs.Answers.{Call, answer, isAccepted}
 use Rattle.book.specs.Calls.{Book, withBlanks, places, viewOf, postings, pairsAfter, afterAccepted}
 use Rattle.book.specs.AtPlace.{onDay, Closes}
@@ -18,7 +18,8 @@ use Rattle.book.specs.Applied.{Applied}
 use Rattle.book.specs.declared.closing.Closing.{Closing}
 use Rattle.book.proofs.Theorems.Places.{pairAt}
 use Rattle.book.proofs.Theorems.Sums.{only-le}
-use Rattle.book.proofs.Functions.Ledger.{Ledger, ledger, posted, FigurePlaces, placesOf, figuresAt, storedAt, post-chosen}
+use Rattle.book.proofs.Functions.Ledger.{Ledger, ledger, posted, FigurePlaces, placesOf, figuresAt, storedAt}
+use Rattle.book.proofs.Functions.Ledger.{GainedBy, fail-stored}
 use Rattle.book.proofs.Functions.Handed.{either-way, applied}
 
 -- the figures once the pairs of a list that fail have posted their fails
@@ -38,33 +39,35 @@ next-place n zero (p ∷ ps) = refl
 next-place n (suc i) [] = refl
 next-place n (suc i) (p ∷ ps) = next-place n i ps
 
--- a pair's figures with its fail, and then the fails of the pairs after it
-fail-one : (today : ℕ) (p : Pair) (ps : List Pair) (l : Ledger) (at : FigurePlaces) → at ≡ placesOf today (p .terms)
-    → failsPosted today (p ∷ ps) l ≡ failsPosted today ps (storedAt at (withFail today p (figuresAt at l)) l)
-unfolding failPosting failPostings
-fail-one today p ps l at placed =
-    go (failing today p)
-    ∙ ap (failsPosted today ps) (sym (post-chosen (failing today p) (failPosting today p) at l placed))
-  where
-    go : (t : Bool)
-        → posted (cond t (failPosting today p ∷ failPostings today ps) (failPostings today ps)) l
-        ≡ failsPosted today ps (cond t (posted (failPosting today p ∷ []) l) l)
-    go true = refl
-    go false = refl
+module _ (today n i : ℕ) (ps qs : List Pair) (l : Ledger) (h : i < n) (same : qs ≡ ps) where
+  -- the pairs of the places after this one
+  abbrev later : List Pair
+  later = placesFrom n (i + 1) ps
 
--- one turn of the loop, at the pairs `qs` of the book then
-pub fails-on : (today n i : ℕ) (ps qs : List Pair) (l : Ledger) (at : FigurePlaces) (d : DayFigures) → i < n
-    → qs ≡ ps
-    → at ≡ placesOf today (pairAt qs i .terms)
-    → d ≡ withFail today (pairAt qs i) (figuresAt at l)
-    → failsPosted today (placesFrom n (i + 1) ps) (storedAt at d l) ≡ failsPosted today (placesFrom n i ps) l
-fails-on today n i ps qs l at d h same placed made =
-    let left : suc (n - suc i) ≡ n - i = omega arith in
-    let next : i + 1 ≡ suc i = omega arith in
-    rw (made, placed, same, next)
-    (sym (fail-one today (pairAt ps i) (withBlanks (n - suc i) (drop (suc i) ps)) l _ refl)
-    ∙ ap (λ (rest : List Pair). failsPosted today rest l) (sym (next-place (n - suc i) i ps))
-    ∙ ap (λ (m : ℕ). failsPosted today (withBlanks m (drop i ps)) l) left)
+  -- this one's pair, in the pairs `qs` of the book then, and the places after it
+  this-place : failsPosted today (pairAt qs i ∷ later) l ≡ failsPosted today (placesFrom n i ps) l
+  this-place =
+      let left : suc (n - suc i) ≡ n - i = omega arith in
+      let next : i + 1 ≡ suc i = omega arith in
+      rw (same, next)
+      (ap (λ (rest : List Pair). failsPosted today rest l) (sym (next-place (n - suc i) i ps))
+      ∙ ap (λ (m : ℕ). failsPosted today (withBlanks m (drop i ps)) l) left)
+
+  -- one turn of the loop, where that pair does not fail
+  pub fails-over : failing today (pairAt qs i) ≡ false → failsPosted today later l ≡ failsPosted today (placesFrom n i ps) l
+  unfolding failPostings
+  fails-over not-failing = rw not-failing at this-place
+
+  -- and where it fails
+  pub fails-on : (at : FigurePlaces) (f : Fail) (r : DayFigures) → failing today (pairAt qs i) ≡ true
+      → at ≡ placesOf today (pairAt qs i .terms)
+      → f ≡ storedFail (failPosting today (pairAt qs i) .figures)
+      → GainedBy f (figuresAt at l) r
+      → failsPosted today later (storedAt at r l) ≡ failsPosted today (placesFrom n i ps) l
+  unfolding failPosting failPostings
+  fails-on at f r is-failing placed made gained =
+      ap (failsPosted today later) (fail-stored (failPosting today (pairAt qs i)) at l f r placed made gained)
+      ∙ rw is-failing at this-place
 
 -- ---- all of them
 

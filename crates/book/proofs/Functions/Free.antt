@@ -12,9 +12,9 @@ use borrow.Author.Tests.{le-leb, lt-leb}
 use Rattle.book.specs.Limits.{dayLimit, openLimit}
 use Rattle.book.specs.Sums.{only}
 use Rattle.book.specs.Pairs.{Entry, Terms, Pair, inRange, blank, isOpen, terms, entered}
-use Rattle.book.specs.Figures.{lateFrom, latePostings, post, postAll}
+use Rattle.book.specs.Figures.{latePosting, lateFrom, latePostings, post, postAll}
 use Rattle.book.specs.Summaries.{postSummaries}
-use Rattle.book.specs.DayFigures.{DayFigures, withLateFail}
+use Rattle.book.specs.DayFigures.{DayFigures, Fail, storedFail}
 use Rattle.book.specs.Answers.{Call, refused, answer, isAccepted}
 use Rattle.book.specs.Calls.{Book, places, openCount, viewOf, answerOf, postings, pairsAfter, afterAccepted}
 use Rattle.book.specs.AtPlace.{atFree, Enters, latePostingsFrom, withLate}
@@ -23,6 +23,7 @@ use Rattle.book.specs.declared.entering.Entered.{Entered}
 use Rattle.book.proofs.Theorems.Places.{pairAt, failing-found, fewer-pass}
 use Rattle.book.proofs.Theorems.Allowed.{allowed}
 use Rattle.book.proofs.Functions.Ledger.{Ledger, ledger, posted, FigurePlaces, placesOf, figuresAt, storedAt}
+use Rattle.book.proofs.Functions.Ledger.{GainedBy, fail-stored}
 use Rattle.book.proofs.Functions.Handed.{either-way, set-chosen, same-parts, applied}
 use Rattle.book.proofs.Functions.Search.{Ended, ended-at-first, ended-with-none, length-places}
 
@@ -103,16 +104,17 @@ abbrev pub latePosted : ℕ → ℕ → Terms → Ledger → Ledger
 latePosted today day t l = posted (latePostingsFrom today day t) l
 
 -- one turn of the loop, for the pair p
-pub late-on : (today day : ℕ) (p : Pair) (l : Ledger) (at : FigurePlaces) (d : DayFigures) → day < today
+pub late-on : (today day : ℕ) (p : Pair) (l : Ledger) (at : FigurePlaces) (f : Fail) (r : DayFigures) → day < today
     → at ≡ placesOf day (p .terms)
-    → d ≡ withLateFail day p (figuresAt at l)
-    → latePosted today (day + 1) (p .terms) (storedAt at d l) ≡ latePosted today day (p .terms) l
-unfolding lateFrom post postSummaries
-late-on today day p l at d h placed made =
+    → f ≡ storedFail (latePosting day (p .terms) .figures)
+    → GainedBy f (figuresAt at l) r
+    → latePosted today (day + 1) (p .terms) (storedAt at r l) ≡ latePosted today day (p .terms) l
+unfolding lateFrom
+late-on today day p l at f r h placed made gained =
     let left : today - day ≡ suc (today - suc day) = omega arith in
     let next : day + 1 ≡ suc day = omega arith in
-    rw (made, placed, next)
-    (ap (λ (n : ℕ). posted (lateFrom n day (p .terms)) l) (sym left))
+    ap (latePosted today (day + 1) (p .terms)) (fail-stored (latePosting day (p .terms)) at l f r placed made gained)
+    ∙ rw next (ap (λ (n : ℕ). posted (lateFrom n day (p .terms)) l) (sym left))
 
 -- today no late day is left
 pub late-end : (today day : ℕ) (t : Terms) (l : Ledger) → today ≤ day → latePosted today day t l ≡ l

@@ -3,7 +3,7 @@
 -- nothing.
 use Prim.Native.Nat.{ℕ}
 use native.Mathlib.Omega.{arith}
-use mathlib.Core.Path.{_≡_, refl, sym, ap, _∙_}
+use mathlib.Core.Path.{_≡_, refl, sym, ap, ap₂, _∙_}
 use mathlib.Core.Bool.{Bool, true, false, cond}
 use mathlib.Core.List.{List, [], _∷_}
 use lib.ListN.{getD, set}
@@ -12,8 +12,9 @@ use Rattle.book.specs.Pairs.{Terms}
 use Rattle.book.specs.SideOfFail.{Sides}
 use Rattle.book.specs.Figures.{Cell, Posting, none, partFigures, failFigures, place, addCell, post, postAll}
 use Rattle.book.specs.Summaries.{Summary, noSummary, summaryOf, addSummary, summaryPlace, postSummaries}
-use Rattle.book.specs.DayFigures.{DayFigures, partSummary, failSummary, addFigures}
+use Rattle.book.specs.DayFigures.{DayFigures, Fail, partSummary, failSummary, addFigures, storedFail}
 use Rattle.book.specs.Calls.{Book}
+use Rattle.book.proofs.Stored.{capped-alone}
 
 -- cells and summaries
 pub record Ledger : Type 0 where
@@ -115,3 +116,42 @@ figures-added d r c s same cell deliverer receiver = λ i. record {
   deliverer = (deliverer ∙ ap (addSummary (d .deliverer)) (sym same)) i;
   receiver = (receiver ∙ ap (addSummary (d .receiver)) (sym same)) i;
 }
+
+-- ---- a fail
+
+-- what a cell and two summaries gain by a fail as it is stored
+pub record GainedBy (f : Fail) (d r : DayFigures) : Type 0 where
+  pub cell : r .cell ≡ addCell (d .cell) (f .cell)
+  pub deliverer : r .deliverer ≡ addSummary (d .deliverer) (f .summary)
+  pub receiver : r .receiver ≡ addSummary (d .receiver) (f .summary)
+
+-- a fail with figures of its own, from what it adds to a cell and a summary that are empty
+pub fail-made : (to : Sides) (v : ℕ) (onIsd : Bool) (r : Fail) {c : Cell} {s : Summary} → c ≡ none → s ≡ noSummary
+    → r .cell ≡ addCell c (failFigures to v onIsd) → r .summary ≡ addSummary s (failSummary v)
+    → r ≡ storedFail (failFigures to v onIsd)
+fail-made to v onIsd r no-figures no-sums cell summary = λ i. record {
+  cell = (cell ∙ ap (λ (c : Cell). addCell c (failFigures to v onIsd)) no-figures) i;
+  summary = (summary ∙ ap₂ addSummary no-sums (sym (fail-summary to v onIsd))) i;
+}
+
+-- a cell gains the same by figures as they are stored
+add-stored-cell : (a c : Cell) → addCell a (addCell none c) ≡ addCell a c
+add-stored-cell a c = rw (capped-alone, capped-alone, capped-alone, capped-alone, capped-alone, capped-alone, capped-alone) refl
+
+-- and so does a summary
+add-stored-summary : (a s : Summary) → addSummary a (addSummary noSummary s) ≡ addSummary a s
+add-stored-summary a s = rw (capped-alone, capped-alone, capped-alone, capped-alone) refl
+
+-- So a fail with these figures, added to what lies at its places and stored there, is its posting taken.
+pub fail-stored : (x : Posting) (at : FigurePlaces) (l : Ledger) (f : Fail) (r : DayFigures)
+    → at ≡ placesOf (x .day) (x .terms)
+    → f ≡ storedFail (x .figures)
+    → GainedBy f (figuresAt at l) r
+    → storedAt at r l ≡ posted (x ∷ []) l
+fail-stored x at l f r placed made gained =
+    ap (λ (d : DayFigures). storedAt at d l)
+    (figures-added (figuresAt at l) r (x .figures) (summaryOf (x .figures)) refl
+    (gained .cell ∙ rw made (add-stored-cell _ _))
+    (gained .deliverer ∙ rw made (add-stored-summary _ _))
+    (gained .receiver ∙ rw made (add-stored-summary _ _)))
+    ∙ post-stored x at l placed

@@ -12,10 +12,11 @@ use Rattle.book.specs.declared.at_place.Sought.{Sought}
 use Rattle.book.specs.Limits.{openLimit}
 use Rattle.book.specs.Applied.{Applied}
 use Rattle.book.specs.AtPlace.{isSought}
+use Rattle.book.proofs.Functions.Tested.{failed, passed}
 use Rattle.book.proofs.Functions.Ledger.{ledger, same-places}
 use Rattle.book.proofs.Functions.Search.{lastPlace, Searched, Ended, searched-start, searched-on, ended}
 use Rattle.book.proofs.Functions.Free.{latePosted, late-on}
-use Rattle.book.proofs.Functions.Closed.{failsPosted, placesFrom, fails-on}
+use Rattle.book.proofs.Functions.Closed.{failsPosted, placesFrom, fails-over, fails-on}
 use Rattle.book.proofs.Functions.InPlace.{late-within, places-within, all-fails, madeIn, place-applied}
 use Rattle.lines.proofs.Theorems.Texts.{next-place}
 use Rattle.monitor.specs.Replay.{isFaulty}
@@ -107,26 +108,31 @@ loop3-holds c = (omega arith, refl, refl, refl)
 -- a late day is one of the 64
 add-day : tie.Need-add-day Inv-loop2 μ-loop2 Inv-loop3 μ-loop3 Inv-loop4 μ-loop4 Inv-loop μ-loop
 add-day c =
-    let days = c .before .before .before .before .before .before .before .before .before .before .before in
-    omega (arith, late-within _ (days .before .before .before .before .before .before .at-place .ensures) (omega arith))
+    let test = c .before .before .before .before .before .before .before .before .before .before in
+    let days = test .before in
+    let done = days .before .before .before .before .before .before in
+    let late = test .loop3-test .taken in
+    omega (arith, late, late-within _ (done .at-place .ensures) (omega (arith, late, days .loop3 .inv .0)))
 
 -- after a turn: the day's figures have gained the pair's fail
 loop3-again : tie.Need-loop3-again Inv-loop2 μ-loop2 Inv-loop3 μ-loop3 Inv-loop4 μ-loop4 Inv-loop μ-loop
 loop3-again c =
-    let made = c .before .before .before in
-    let receiver = made .before .before .before .before in
+    let receiver = c .before .before .before .before in
     let deliverer = receiver .before in
-    let cell = deliverer .before in
-    let days = cell .before .before in
+    let added = deliverer .before in
+    let cell = added .before .before in
+    let fail = cell .before in
+    let days = fail .before .before in
     let left = days .before .before .before .before .before .before .at-place .result in
     let now = days .loop3 in (
       omega arith,
       now .inv .1,
       now .inv .2,
-      late-on _ (now .day) (left .pair) (ledger (now .book)) _ _ (omega arith)
+      late-on _ (now .day) (left .pair) (ledger (now .book)) _ _ _ (omega arith)
           (same-places _ _ (cell .cell-place2 .ensures .value) (deliverer .deliverer-place2 .ensures .value)
           (receiver .receiver-place2 .ensures .value))
-          (made .add-late .ensures)
+          (fail .fail-when-late .ensures)
+          (record { cell = added .add .ensures; deliverer = c .before .add2 .ensures; receiver = c .add3 .ensures })
           ∙ now .inv .3,
     )
 
@@ -138,21 +144,43 @@ loop4-holds c =
     let done = c .before .before .before .before .before .before .before in
     (places-within _ (done .at-place .ensures), refl, refl, refl)
 
--- after a turn: the figures of the place's pair are closed
+-- after a turn at a pair that does not fail
 loop4-again : tie.Need-loop4-again Inv-loop2 μ-loop2 Inv-loop3 μ-loop3 Inv-loop4 μ-loop4 Inv-loop μ-loop
 loop4-again c =
-    let made = c .before .before .before in
-    let receiver = made .before .before .before .before in
-    let deliverer = receiver .before in
-    let cell = deliverer .before in
-    let now = cell .before .before .before .loop4 in (
+    let now = c .before .before .before .before .loop4 in (
       now .inv .0,
       now .inv .1,
       now .inv .2,
-      fails-on _ _ (now .n) _ (now .book .pairs) (ledger (now .book)) _ _ (omega arith) (now .inv .1)
+      fails-over _ _ (now .n) _ (now .book .pairs) (ledger (now .book)) (omega arith) (now .inv .1)
+          (failed (c .before .is-failing .ensures) (c .if2 .taken))
+          ∙ now .inv .3,
+    )
+
+-- a place less is left
+loop4-less-2 : tie.Need-loop4-less-2 Inv-loop2 μ-loop2 Inv-loop3 μ-loop3 Inv-loop4 μ-loop4 Inv-loop μ-loop
+loop4-less-2 c =
+    let test = c .before .before .before .before .before .before .before .before .before .before in
+    omega (arith, test .before .before .before .loop4-test .taken)
+
+-- after a turn at one that fails: its figures have gained its fail
+loop4-again-2 : tie.Need-loop4-again-2 Inv-loop2 μ-loop2 Inv-loop3 μ-loop3 Inv-loop4 μ-loop4 Inv-loop μ-loop
+loop4-again-2 c =
+    let receiver = c .before .before .before .before in
+    let deliverer = receiver .before in
+    let added = deliverer .before in
+    let cell = added .before .before in
+    let fail = cell .before in
+    let test = fail .before in
+    let now = test .before .before .before .before .loop4 in (
+      now .inv .0,
+      now .inv .1,
+      now .inv .2,
+      fails-on _ _ (now .n) _ (now .book .pairs) (ledger (now .book)) (omega arith) (now .inv .1) _ _ _
+          (passed (test .before .is-failing .ensures) (test .if2 .left))
           (same-places _ _ (cell .cell-place3 .ensures .value) (deliverer .deliverer-place3 .ensures .value)
           (receiver .receiver-place3 .ensures .value))
-          (made .close .ensures)
+          (fail .fail-at-close .ensures)
+          (record { cell = added .add4 .ensures; deliverer = c .before .add5 .ensures; receiver = c .add6 .ensures })
           ∙ now .inv .3,
     )
 
@@ -334,18 +362,21 @@ replay-lines-spec =
     loop3-holds
     (λ c κs. search needs)
     (λ c κs. search needs)
-    (λ c κs. search needs)
-    (λ c. omega arith)
-    (λ c. search needs)
-    (λ c. omega arith)
-    (λ c. search needs)
     (λ c. omega arith)
     (λ c. search needs)
     (λ c κs. search needs)
     (λ c. omega arith)
     (λ c. search needs)
+    (λ c κs. search needs)
+    (λ c κs. search needs)
     (λ c. omega arith)
     (λ c. search needs)
+    (λ c. omega arith)
+    (λ c. search needs)
+    (λ c κs. search needs)
+    (λ c. omega arith)
+    (λ c. search needs)
+    (λ c κs. search needs)
     (λ c. omega arith)
     (λ c. search needs)
     add-day
@@ -354,25 +385,31 @@ replay-lines-spec =
     loop4-holds
     (λ c. omega arith)
     (λ c. search needs)
+    (λ c. omega arith)
     (λ c κs. search needs)
-    (λ c κs. search needs)
-    (λ c κs. search needs)
-    (λ c. omega arith)
-    (λ c. search needs)
-    (λ c. omega arith)
-    (λ c. search needs)
-    (λ c. omega arith)
-    (λ c. search needs)
-    (λ c κs. search needs)
-    (λ c. omega arith)
-    (λ c. search needs)
-    (λ c. omega arith)
-    (λ c. search needs)
-    (λ c. omega arith)
-    (λ c. search needs)
-    (λ c. omega arith)
     (λ c. omega arith)
     loop4-again
+    (λ c κs. search needs)
+    (λ c κs. search needs)
+    (λ c. omega arith)
+    (λ c. search needs)
+    (λ c κs. search needs)
+    (λ c. omega arith)
+    (λ c. search needs)
+    (λ c κs. search needs)
+    (λ c κs. search needs)
+    (λ c. omega arith)
+    (λ c. search needs)
+    (λ c. omega arith)
+    (λ c. search needs)
+    (λ c κs. search needs)
+    (λ c. omega arith)
+    (λ c. search needs)
+    (λ c κs. search needs)
+    (λ c. omega arith)
+    (λ c. search needs)
+    loop4-less-2
+    loop4-again-2
     (λ c κs. search needs)
     with-line-requires
     loop-less

@@ -25,19 +25,21 @@ abbrev μ-loop : tie.MeasureT-loop
 -- after a turn: the day's figures have gained the pair's fail
 loop-again : tie.Need-loop-again Inv-loop μ-loop
 loop-again c =
-    let made = c .before .before .before in
-    let receiver = made .before .before .before .before in
+    let receiver = c .before .before .before .before in
     let deliverer = receiver .before in
-    let cell = deliverer .before in
-    let now = cell .before .before .loop in
-    let start = cell .before .before .before in (
+    let added = deliverer .before in
+    let cell = added .before .before in
+    let fail = cell .before in
+    let now = fail .before .before .loop in
+    let start = fail .before .before .before in (
       now .inv .0,
       now .inv .1,
       now .inv .2,
-      late-on (start .args .t1 .today) (now .day) (start .args .pair) (ledger (now .self)) _ _ (omega arith)
+      late-on (start .args .t1 .today) (now .day) (start .args .pair) (ledger (now .self)) _ _ _ (omega arith)
           (same-places _ _ (cell .cell-place .ensures .value) (deliverer .deliverer-place .ensures .value)
           (receiver .receiver-place .ensures .value))
-          (made .add-late .ensures)
+          (fail .fail-when-late .ensures)
+          (record { cell = added .add .ensures; deliverer = c .before .add2 .ensures; receiver = c .add3 .ensures })
           ∙ now .inv .3,
     )
 
@@ -59,18 +61,21 @@ add-late-spec =
     (λ c. (refl, refl, refl, refl))
     (λ c κs. search needs)
     (λ c κs. search needs)
-    (λ c κs. search needs)
-    (λ c. omega arith)
-    (λ c. search needs)
-    (λ c. omega arith)
-    (λ c. search needs)
     (λ c. omega arith)
     (λ c. search needs)
     (λ c κs. search needs)
     (λ c. omega arith)
     (λ c. search needs)
+    (λ c κs. search needs)
+    (λ c κs. search needs)
     (λ c. omega arith)
     (λ c. search needs)
+    (λ c. omega arith)
+    (λ c. search needs)
+    (λ c κs. search needs)
+    (λ c. omega arith)
+    (λ c. search needs)
+    (λ c κs. search needs)
     (λ c. omega arith)
     (λ c. search needs)
     (λ c. omega arith)

@@ -5,8 +5,9 @@ use native.Mathlib.Omega.{arith}
 use mathlib.Core.Path.{_≡_, refl, _∙_}
 use borrow.Author.Needs.{needs}
 use Rattle.book.specs.Limits.{openLimit}
+use Rattle.book.proofs.Functions.Tested.{failed, passed}
 use Rattle.book.proofs.Functions.Ledger.{ledger, same-places}
-use Rattle.book.proofs.Functions.Closed.{failsPosted, placesFrom, fails-on, places-bound, close-applied}
+use Rattle.book.proofs.Functions.Closed.{failsPosted, placesFrom, fails-over, fails-on, places-bound, close-applied}
 use Rattle.book.proofs.book.Book.close.Statement.{statement}
 use Rattle.book.proofs.book.Book.close.Tie as tie
 
@@ -27,23 +28,45 @@ abbrev μ-loop : tie.MeasureT-loop
 loop-holds : tie.Need-loop-holds Inv-loop μ-loop
 loop-holds c = (places-bound _ _ (c .close-of .ensures), refl, refl, refl)
 
--- after a turn: the figures of the place's pair are closed
+-- after a turn at a pair that does not fail
 loop-again : tie.Need-loop-again Inv-loop μ-loop
 loop-again c =
-    let made = c .before .before .before in
-    let receiver = made .before .before .before .before in
-    let deliverer = receiver .before in
-    let cell = deliverer .before in
-    let now = cell .before .before .before .loop in (
+    let now = c .before .before .before .before .loop in (
       now .inv .0,
       now .inv .1,
       now .inv .2,
-      fails-on _ _ (now .i) _ (now .self .pairs) (ledger (now .self)) _ _ (omega arith) (now .inv .1)
-          (same-places _ _ (cell .cell-place .ensures .value) (deliverer .deliverer-place .ensures .value)
-          (receiver .receiver-place .ensures .value))
-          (made .close .ensures)
+      fails-over _ _ (now .i) _ (now .self .pairs) (ledger (now .self)) (omega arith) (now .inv .1)
+          (failed (c .before .is-failing .ensures) (c .if1 .taken))
           ∙ now .inv .3,
     )
+
+-- after a turn at one that fails: its figures have gained its fail
+loop-again-2 : tie.Need-loop-again-2 Inv-loop μ-loop
+loop-again-2 c =
+    let receiver = c .before .before .before .before in
+    let deliverer = receiver .before in
+    let added = deliverer .before in
+    let cell = added .before .before in
+    let fail = cell .before in
+    let test = fail .before in
+    let now = test .before .before .before .before .loop in (
+      now .inv .0,
+      now .inv .1,
+      now .inv .2,
+      fails-on _ _ (now .i) _ (now .self .pairs) (ledger (now .self)) (omega arith) (now .inv .1) _ _ _
+          (passed (test .before .is-failing .ensures) (test .if1 .left))
+          (same-places _ _ (cell .cell-place .ensures .value) (deliverer .deliverer-place .ensures .value)
+          (receiver .receiver-place .ensures .value))
+          (fail .fail-at-close .ensures)
+          (record { cell = added .add .ensures; deliverer = c .before .add2 .ensures; receiver = c .add3 .ensures })
+          ∙ now .inv .3,
+    )
+
+-- a place less is left
+loop-less-2 : tie.Need-loop-less-2 Inv-loop μ-loop
+loop-less-2 c =
+    let test = c .before .before .before .before .before .before .before .before .before .before in
+    omega (arith, test .before .before .before .loop-test .taken)
 
 -- at the end, no place is left
 returns : tie.Need-returns Inv-loop μ-loop
@@ -61,24 +84,30 @@ close-spec =
     (λ c κs. search needs)
     loop-holds
     (λ c. omega arith)
+    (λ c. search needs)
     (λ c. omega arith)
     (λ c κs. search needs)
-    (λ c κs. search needs)
-    (λ c κs. search needs)
-    (λ c. omega arith)
-    (λ c. search needs)
-    (λ c. omega arith)
-    (λ c. search needs)
-    (λ c. omega arith)
-    (λ c. search needs)
-    (λ c κs. search needs)
-    (λ c. omega arith)
-    (λ c. search needs)
-    (λ c. omega arith)
-    (λ c. search needs)
-    (λ c. omega arith)
-    (λ c. search needs)
-    (λ c. omega arith)
     (λ c. omega arith)
     loop-again
+    (λ c κs. search needs)
+    (λ c κs. search needs)
+    (λ c. omega arith)
+    (λ c. search needs)
+    (λ c κs. search needs)
+    (λ c. omega arith)
+    (λ c. search needs)
+    (λ c κs. search needs)
+    (λ c κs. search needs)
+    (λ c. omega arith)
+    (λ c. search needs)
+    (λ c. omega arith)
+    (λ c. search needs)
+    (λ c κs. search needs)
+    (λ c. omega arith)
+    (λ c. search needs)
+    (λ c κs. search needs)
+    (λ c. omega arith)
+    (λ c. search needs)
+    loop-less-2
+    loop-again-2
     returns)
