@@ -1,4 +1,6 @@
 // Reads a call file on standard input and writes what came of each of its lines.
+#![tactic(auto)]
+
 use libc::STDIN_FILENO;
 use monitor::answer_table::{ANSWER_ROOM, answer_table};
 use monitor::replay::FILE_ROOM;

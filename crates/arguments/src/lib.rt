@@ -1,9 +1,11 @@
 // The days that a program is asked for by its arguments: what `report` and `worst` share.
+#![tactic(auto)]
+
 use monitor::day_argument::{DayArgument, day_of};
 use monitor::days::Days;
 
 // What the arguments ask for: a run of days, or nothing that is known.
-#[derive(Drop)]
+#[derive(Clone, Copy)]
 pub enum Asked {
     Known(Days),
     Unknown,

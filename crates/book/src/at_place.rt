@@ -11,7 +11,7 @@ use crate::entering::Entered;
 use crate::pairs::Pair;
 
 // What a call looks for: a free place, the open pair of an id, or, as a close does, any place.
-#[derive(Drop)]
+#[derive(Clone, Copy)]
 pub enum Sought {
     FreePlace,
     OpenPair(u64),
@@ -21,7 +21,7 @@ pub enum Sought {
 // What a call leaves: the pair of its place, today's figures that the place's pair was counted in, the highest id accepted,
 // the day after it, and what comes back. Left to be counted are the pair's fail on each day from `late_from` to
 // yesterday, and at a close the fails of the pairs in so many places.
-#[derive(Drop)]
+#[derive(Clone, Copy)]
 pub struct PlaceAfter {
     pub pair: Pair,
     pub figures: DayFigures,

@@ -11,7 +11,7 @@ use crate::summaries::Summary;
 
 // `last_id` is the highest id accepted so far. A place of `pairs` is free where its pair is not open. The cells lie
 // in one flat array by day and category, nine to a day, and the summaries in one by day and participant, forty to a day.
-#[derive(Drop)]
+#[derive(Clone, Copy)]
 pub struct Book {
     pub pairs: [Pair; PAIRS],
     pub cells: [Cell; CELLS],
@@ -21,7 +21,7 @@ pub struct Book {
 }
 
 // What a call hands back: the book, and whether the call was accepted or why not.
-#[derive(Drop)]
+#[derive(Clone, Copy)]
 pub struct Outcome {
     pub book: Book,
     pub answer: Answer,

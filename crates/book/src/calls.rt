@@ -4,7 +4,7 @@ ghost use Rattle.book.specs.Answers.{refusal_number, answer_number, is_accepted}
 
 use crate::pairs::Entry;
 
-#[derive(Drop)]
+#[derive(Clone, Copy)]
 pub enum Call {
     Enter(Entry),
     // id, side, on or off
@@ -19,7 +19,7 @@ pub enum Call {
 }
 
 // Why a call, a row, a report, a list, a file or a row as text is refused, in the order of document 01's numbers 1 to 11.
-#[derive(Drop)]
+#[derive(Clone, Copy)]
 pub enum Refusal {
     Finished,
     OutOfRange,
@@ -35,7 +35,7 @@ pub enum Refusal {
 }
 
 // What comes back from one of the six calls, and beside each of nine reports, a list and a file replayed.
-#[derive(Drop)]
+#[derive(Clone, Copy)]
 pub enum Answer {
     Accepted,
     Refused(Refusal),

@@ -12,7 +12,7 @@ use crate::sides::Sides;
 use rates::stored::capped_sum;
 
 // So many SIs, and their value.
-#[derive(Drop)]
+#[derive(Clone, Copy)]
 pub struct Figure {
     pub number: u64,
     pub value: u64,
@@ -24,7 +24,7 @@ pub(crate) const NOTHING: Figure = Figure {
 };
 
 // Securities and cash are fails by side, and the ISD value is that of the fails counted on their own ISD.
-#[derive(Drop)]
+#[derive(Clone, Copy)]
 pub struct Cell {
     pub settled: Figure,
     pub securities: Figure,

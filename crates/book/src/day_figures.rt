@@ -15,7 +15,7 @@ use crate::pairs::Pair;
 use crate::summaries::{Summary, summary_place};
 
 // All three, for a settle: one function adds to them, so that rows and summaries gain the same.
-#[derive(Drop)]
+#[derive(Clone, Copy)]
 pub struct DayFigures {
     pub cell: Cell,
     pub deliverer: Summary,

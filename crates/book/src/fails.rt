@@ -11,7 +11,7 @@ use crate::summaries::Summary;
 
 // As it is stored: what it adds to the cell of the pair's category, and to the summary of each of its participants. It is
 // worked out one time and then added to all three, so that rows and summaries gain the same.
-#[derive(Drop)]
+#[derive(Clone, Copy)]
 pub struct Fail {
     pub cell: Cell,
     pub summary: Summary,

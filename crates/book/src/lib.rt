@@ -1,5 +1,7 @@
 // The settlement fails book: matched pairs of settlement instructions, followed through 64 business days.
 // Documents 01 and 02 give the rules; their definitions stand in specs/, and each contract is an equation with one of them.
+#![tactic(auto)]
+
 pub mod limits; // the limits of the papers
 mod numbers; // a range, numbers of fewer bits, small sums, and places in a flat array
 pub mod pairs; // a pair: its values, holds, lack and rest

@@ -8,7 +8,7 @@ ghost use Rattle.book.specs.Calls.{is_open_pair};
 use crate::numbers::{wide, wide_id};
 
 // 1 DVP/RVP, 2 DWP/RWP, 3 DFP/RFP, 4 DPFOD/CPFOD.
-#[derive(Drop)]
+#[derive(Clone, Copy)]
 pub enum Kind {
     AgainstPayment,
     WithPayment,
@@ -17,14 +17,14 @@ pub enum Kind {
 }
 
 // Who entered last, 1 the deliverer, 2 the receiver.
-#[derive(Drop)]
+#[derive(Clone, Copy)]
 pub enum Side {
     Deliverer,
     Receiver,
 }
 
 // Which of the two sides has put the pair on hold.
-#[derive(Drop)]
+#[derive(Clone, Copy)]
 pub enum Holds {
     Neither,
     Deliverer,
@@ -33,7 +33,7 @@ pub enum Holds {
 }
 
 // What the pair lacks, 0 nothing, 1 securities, 2 cash. The lack is a term of document 01.
-#[derive(Drop)]
+#[derive(Clone, Copy)]
 pub enum Lack {
     Nothing,
     Securities,
@@ -42,7 +42,7 @@ pub enum Lack {
 
 // A pair as an enter gives it: any numbers, which the enter's refusal looks at. Deliverer and receiver are the codes of the
 // participants at its two ends, which may be one and the same.
-#[derive(Drop)]
+#[derive(Clone, Copy)]
 pub struct Entry {
     pub id: u64,
     pub kind: u64,
@@ -55,7 +55,7 @@ pub struct Entry {
 }
 
 // The same once accepted, in the widths that the ranges allow. ISD is the intended settlement date.
-#[derive(Drop)]
+#[derive(Clone, Copy)]
 pub struct Terms {
     pub amount: u64,
     pub id: u16,
@@ -70,7 +70,7 @@ pub struct Terms {
 // An accepted pair. Its rest, a term of document 01, is the amount less the parts settled; it is open while that is
 // above 0. `last_part` is the day after the one on which its last part settled, 0 where none has: a new day then needs
 // no write to the pair.
-#[derive(Drop)]
+#[derive(Clone, Copy)]
 pub struct Pair {
     pub terms: Terms,
     pub rest: u64,

@@ -7,7 +7,7 @@ use crate::calls::Refusal;
 use crate::cells::{Cell, Figure, place};
 use crate::limits::{CATEGORIES, DAYS};
 
-#[derive(Drop)]
+#[derive(Clone, Copy)]
 pub struct Row {
     pub total: Figure,
     pub settled: Figure,
@@ -17,7 +17,7 @@ pub struct Row {
 }
 
 // What comes back where a row is asked for: its figures, or a refusal and none.
-#[derive(Drop)]
+#[derive(Clone, Copy)]
 pub enum RowAnswer {
     Figures(Row),
     Refused(Refusal),

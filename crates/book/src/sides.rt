@@ -5,7 +5,7 @@ ghost use Rattle.book.specs.SideOfFail.{sides_at_close, sides_when_late};
 use crate::pairs::{Holds, Kind, Lack, Side};
 
 // Both SIs to securities, both to cash, or one SI and one rest to each side.
-#[derive(Drop)]
+#[derive(Clone, Copy)]
 pub enum Sides {
     Securities,
     Cash,

@@ -11,7 +11,7 @@ use crate::numbers::{day_place, only_if, twice};
 
 // Both SIs of each pair that names the participant, at either end or at both: settled and failing ones, and the failing ones
 // alone.
-#[derive(Drop)]
+#[derive(Clone, Copy)]
 pub struct Summary {
     pub total: Figure,
     pub fails: Figure,

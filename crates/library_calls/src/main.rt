@@ -2,6 +2,8 @@
 // category as text, the report of one category or one day, all nine in one call, the list of one measure, what refuses them,
 // rates and durations of any numbers, rates compared, and the reader of lines. The stored output beside src/ is what it must
 // write.
+#![tactic(auto)]
+
 mod text; // what is written
 mod files; // the call files whose books are asked
 mod rows; // rows as text

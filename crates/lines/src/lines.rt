@@ -4,7 +4,7 @@ ghost use Rattle.lines.specs.Reading.{read_by, line_at, next_at};
 
 use crate::reading::{Line, next_line, read_line};
 
-#[derive(Drop)]
+#[derive(Clone, Copy)]
 pub struct Lines<'a> {
     pub text: &'a [u8],
     pub at: usize,

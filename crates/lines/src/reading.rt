@@ -7,7 +7,7 @@ use crate::fields::{COLUMNS, HIGHEST_CALL, LAST_COLUMN, call_of, highest_in, low
 use book::calls::Call;
 
 // What is read at a place of a text.
-#[derive(Drop)]
+#[derive(Clone, Copy)]
 pub enum Line {
     // A correct line: its call.
     Correct(Call),

@@ -6,7 +6,7 @@ ghost use Rattle.monitor.specs.DayArgument.{day_of, day_by};
 use book::limits::DAYS;
 
 // What an argument says: a day, 64 for each number over 63, or none.
-#[derive(Drop)]
+#[derive(Clone, Copy)]
 pub enum DayArgument {
     Day(u64),
     NoDay,

@@ -3,7 +3,7 @@ ghost use Rattle.std.specs.Prelude.{◌≡◌, ◌-◌};
 ghost use Rattle.monitor.specs.RunOfDays.{run_of};
 
 // The days asked for: all that are closed, or those from the first to the last.
-#[derive(Drop)]
+#[derive(Clone, Copy)]
 pub enum Days {
     AllClosed,
     FromTo(u64, u64),

@@ -1,5 +1,7 @@
 // The monitor: a call file in, its texts out. Document 01, 'The calls as text'; document 02, card 2.
 // The texts stand in specs/, down to their bytes, and each contract is an equation with one of its definitions.
+#![tactic(auto)]
+
 pub mod replay; // a call file replayed from a fresh book
 mod fault; // what is written of a faulty file, and of a refused run of days
 pub mod table; // the table: a line for each closed day, and the counts

@@ -18,7 +18,7 @@ pub const FILE_ROOM: usize = FILE_LIMIT + 1;
 
 // A file replayed: the book that it leaves, how many of its lines were accepted and how many refused, and whether the file
 // itself was taken or is faulty.
-#[derive(Drop)]
+#[derive(Clone, Copy)]
 pub struct ReplayedFile {
     pub book: Book,
     pub accepted: u64,

@@ -11,7 +11,7 @@ use book::calls::{Answer, Refusal};
 use reports::reports::is_refused_run;
 
 // What comes back where a list is asked for: the list, or a refusal and no entries.
-#[derive(Drop)]
+#[derive(Clone, Copy)]
 pub struct ListAnswer {
     pub answer: Answer,
     pub list: Listed,

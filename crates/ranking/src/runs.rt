@@ -8,7 +8,7 @@ use book::book::Book;
 use book::summaries::{Summary, summary_place};
 
 // The measure of a rate: so many SIs, or their value.
-#[derive(Drop)]
+#[derive(Clone, Copy)]
 pub enum Measure {
     Number,
     Value,

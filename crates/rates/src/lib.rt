@@ -1,5 +1,7 @@
 // The fail rate and the average duration of a report: exact also where the product passes 64 bits, and the largest number of
 // 64 bits where the result itself doesn't fit. Document 01, 'A report'.
+#![tactic(auto)]
+
 ghost use Rattle.std.specs.Prelude.{◌≡◌};
 ghost use Rattle.std.proofs.Math.Option.{map};
 ghost use Rattle.rates.specs.Stored.{capped};
@@ -12,7 +14,7 @@ pub mod comparison; // two rates compared exactly
 use crate::quotient::{Quotient, capped_scaled};
 
 // The average duration of fails in hundredths of a day; absent where no fail was counted on its own ISD.
-#[derive(Drop)]
+#[derive(Clone, Copy)]
 pub enum Duration {
     Absent,
     Hundredths(u64),

@@ -8,7 +8,7 @@ ghost use Rattle.rates.specs.Quotients.{dividend, OfRemainder, Sum, Multiple};
 use crate::stored::LARGEST;
 
 // Of a number by a divisor: how often it goes in, and what is left.
-#[derive(Drop)]
+#[derive(Clone, Copy)]
 pub(crate) struct Quotient {
     pub whole: u64,
     pub remainder: u64,

@@ -1,5 +1,7 @@
 // Reads a call file on standard input and writes its reports, over all closed days or, with two arguments, from the first
 // day to the last.
+#![tactic(auto)]
+
 use arguments::{Asked, asked_days};
 use libc::STDIN_FILENO;
 use monitor::days::Days;

@@ -14,7 +14,7 @@ use rates::Duration;
 pub const NINE: usize = CATEGORIES as usize;
 
 // A category's report among the nine: the number that came back stands beside its figures.
-#[derive(Drop)]
+#[derive(Clone, Copy)]
 pub struct NumberedReport {
     pub answer: Answer,
     pub report: Report,

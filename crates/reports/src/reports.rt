@@ -11,7 +11,7 @@ use book::rows::Row;
 use rates::{Duration, average_duration, fail_rate};
 
 // The rates are in hundredths of a percent.
-#[derive(Drop)]
+#[derive(Clone, Copy)]
 pub struct Report {
     pub sums: Row,
     pub rate_by_number: u64,
@@ -20,7 +20,7 @@ pub struct Report {
 }
 
 // What comes back where a report is asked for: its figures, or a refusal and none.
-#[derive(Drop)]
+#[derive(Clone, Copy)]
 pub enum ReportAnswer {
     Figures(Report),
     Refused(Refusal),

@@ -11,7 +11,7 @@ use lines::writing::put_line;
 pub const SHORTEST_BUFFER: usize = 128;
 
 // What comes back: the count of the bytes written, or a refusal.
-#[derive(Drop)]
+#[derive(Clone, Copy)]
 pub enum TextAnswer {
     Written(usize),
     Refused(Refusal),

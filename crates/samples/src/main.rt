@@ -1,6 +1,8 @@
 // Holds the texts of example files to stored ones. For each NAME among its arguments it reads NAME.csv and makes its table,
 // reports, lists and answers; it writes the NAME and which of NAME.table, NAME.report, NAME.worst and NAME.answers are stored,
 // and says so where one of them is another text.
+#![tactic(auto)]
+
 mod files; // files by name
 
 use crate::files::read_file;

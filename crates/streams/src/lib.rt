@@ -1,12 +1,14 @@
 // Standard input and files read whole, and texts written: what the programs share. What the operating system reads and
 // writes is not proved.
+#![tactic(auto)]
+
 ghost use Rattle.std.specs.Prelude.{◌+◌, ◌≤◌, length};
 ghost use Rattle.io.specs.Counts.{IsPrefixLen};
 
 use libc::{STDERR_FILENO, STDOUT_FILENO};
 
 // How many bytes were read, which stand at the buffer's start, and whether a read failed.
-#[derive(Drop)]
+#[derive(Clone, Copy)]
 pub struct Input {
     pub count: usize,
     pub failed: bool,

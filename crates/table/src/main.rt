@@ -1,4 +1,6 @@
 // Reads a call file on standard input and writes its table. Document 01, 'The calls as text'.
+#![tactic(auto)]
+
 use libc::STDIN_FILENO;
 use monitor::replay::FILE_ROOM;
 use monitor::table::{TABLE_ROOM, table};

@@ -1,4 +1,6 @@
 // Calls to be timed from Rust: bench/run. Each starts from a full book, so that what is timed is the calls.
+#![tactic(auto)]
+
 ghost use Rattle.std.specs.Prelude.{◌≤◌};
 
 use book::book::Book;

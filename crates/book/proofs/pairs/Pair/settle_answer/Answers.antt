@@ -1,0 +1,79 @@
+-- `Pair::settle_answer` meets its contract: each answer by what the tests before it showed. Past the tests of the day and
+-- of the id, the answer looks at the pair of the place. Assumes nothing.
+use mathlib.Core.Path.{◌≡◌, sym, ◌∙◌}
+use mathlib.Core.Bool.{◌||◌}
+use lib.Dec.{ltb, eqb}
+use borrow.Author.Tests.{le-leb, lt-leb, le-ltb, lt-ltb, ne_eqb}
+use Rattle.book.specs.Limits.{day_limit}
+use Rattle.book.specs.Pairs.{any_hold}
+use Rattle.book.specs.Answers.{Call, refused, accepted, answer}
+use Rattle.book.specs.AtPlace.{at_found}
+use Rattle.book.proofs.Functions.Tested.{failed, passed}
+use Rattle.book.proofs.Functions.Opened.{is_open_lem, open_missing}
+use Rattle.std.proofs.lemmas.Bool.{not_from_false, not_from_true}
+use Rattle.book.proofs.pairs.Pair.settle_answer.Goals as goal
+
+-- where the pair is the open one of the id, what comes back is that of the later tests
+past_open : (c : goal.Else-not-is_open_with) → let a = c.args in
+    answer (at_found a.today a.self) (Call.Settle a.id a.part)
+    ≡ refused (ltb a.today a.self.terms.isd) 6
+    (refused (any_hold a.self.holds) 7
+    (refused (eqb a.part 0 || ltb a.self.rest a.part) 8 accepted))
+unfolding answer
+past_open c =
+    let a = c.args in
+    let h = passed c.is_open_with.ensures (not_from_true _ c.if-not-is_open_with.false) in
+    rw (lt-leb day_limit a.today c.if-today-ge-DAYS.false, h, is_open_lem a.id a.self h)
+
+-- where it is due too
+past_due : (c : goal.Else-today-wide) → let a = c.args in
+    answer (at_found a.today a.self) (Call.Settle a.id a.part)
+    ≡ refused (any_hold a.self.holds) 7 (refused (eqb a.part 0 || ltb a.self.rest a.part) 8 accepted)
+past_due c =
+    let a = c.args in
+    past_open c.before.before
+    ∙ rw (sym c.wide.ensures, le-ltb a.today c.wide.result c.if-today-wide.false)
+
+-- where no hold is on too
+past_holds : (c : goal.Else-any) → let a = c.args in
+    answer (at_found a.today a.self) (Call.Settle a.id a.part)
+    ≡ refused (eqb a.part 0 || ltb a.self.rest a.part) 8 accepted
+past_holds c = past_due c.before.before ∙ rw (sym c.any.ensures, c.if-any.false)
+
+pub returns-then-today-ge-DAYS : goal.returns-then-today-ge-DAYS
+unfolding answer
+returns-then-today-ge-DAYS c = rw (le-leb day_limit c.args.today c.if-today-ge-DAYS.true)
+
+pub returns-then-not-is_open_with : goal.returns-then-not-is_open_with
+unfolding answer
+returns-then-not-is_open_with c =
+    let a = c.args in
+    rw (
+      lt-leb day_limit a.today c.if-today-ge-DAYS.false,
+      open_missing a.today a.id a.self (failed c.is_open_with.ensures (not_from_false _ c.if-not-is_open_with.true)),
+    )
+
+pub returns-then-today-wide : goal.returns-then-today-wide
+returns-then-today-wide c =
+    let today = c.args.today in
+    rw (
+      past_open c.before.before,
+      sym c.wide.ensures,
+      lt-ltb today c.wide.result c.if-today-wide.true,
+    )
+
+pub returns-then-any : goal.returns-then-any
+returns-then-any c = rw (past_due c.before.before, sym c.any.ensures, c.if-any.true)
+
+pub returns-then-part-eq0 : goal.returns-then-part-eq0
+returns-then-part-eq0 c = rw (past_holds c.before, c.if-part-eq0.true)
+
+pub returns-then-self-part : goal.returns-then-self-part
+returns-then-self-part c =
+    let a = c.args in
+    rw (past_holds c.before.before.before, ne_eqb a.part 0 c.if-part-eq0.false, lt-ltb a.self.rest a.part c.if-self-part.true)
+
+pub returns : goal.returns
+returns c =
+    let a = c.args in
+    rw (past_holds c.before.before.before, ne_eqb a.part 0 c.if-part-eq0.false, le-ltb a.self.rest a.part c.if-self-part.false)
