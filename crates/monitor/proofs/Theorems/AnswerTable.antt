@@ -23,6 +23,7 @@ use Rattle.lines.specs.Texts.{cut, lines_of}
 use Rattle.lines.proofs.Theorems.Ends.{PlaceMost, places-most}
 use Rattle.lines.proofs.Theorems.Texts.{cut_most}
 use Rattle.monitor.specs.Replay.{
+  after_line,
   file_limit,
   is_faulty,
   call_lines,
@@ -72,7 +73,7 @@ Small (wrong_line place) = place ≤ file_limit
 answers_small : (k : ℕ) → k ≤ file_limit → (b : Book) (ls : List Reading) → All (PlaceMost k) ls → All Small (answers_from b ls)
 unfolding answers_from
 answers_small k few b [] h = tt
-answers_small k few b (fields f ∷ ls) h = (omega (arith, answer-most b (call_of f)), answers_small k few _ ls h.1)
+answers_small k few b (fields f ∷ ls) h = (omega (arith, answer-most b (call_of f)), answers_small k few (after_line b (fields f)) ls h.1)
 answers_small k few b (wrong_at place ∷ ls) h = (omega (arith, h.0), answers_small k few b ls h.1)
 answers_small k few b (no_line ∷ ls) h = (omega arith, answers_small k few b ls h.1)
 

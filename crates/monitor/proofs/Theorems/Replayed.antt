@@ -22,6 +22,7 @@ use Rattle.lines.specs.Texts.{cut, lines_of}
 use Rattle.lines.proofs.Theorems.Table.{call_of_fields}
 use Rattle.lines.proofs.Theorems.Texts.{cut_most}
 use Rattle.monitor.specs.Replay.{
+  after_line,
   file_limit,
   is_faulty,
   call_lines,
@@ -45,7 +46,8 @@ calls_book : (b : Book) (h : List Event) (ls : List Reading)
     → (run (record { book = b; history = h }) (calls_in ls)).book ≡ after_lines b ls
 unfolding run step after_lines
 calls_book b h [] = refl
-calls_book b h (fields f ∷ ls) = calls_book _ _ ls
+calls_book b h (fields f ∷ ls) =
+    let s = step (record { book = b; history = h }) (call_of f) in calls_book s.book s.history ls
 calls_book b h (wrong_at place ∷ ls) = calls_book b h ls
 calls_book b h (no_line ∷ ls) = calls_book b h ls
 
@@ -74,7 +76,7 @@ counted_once (a ∷ answers) = omega (arith, one_of (is_accepted_line a), counte
 pub answer_each : (b : Book) (ls : List Reading) → length (answers_from b ls) ≡ length ls
 unfolding answers_from
 answer_each b [] = refl
-answer_each b (l ∷ ls) = ap suc (answer_each _ ls)
+answer_each b (l ∷ ls) = ap suc (answer_each (after_line b l) ls)
 
 -- One more is counted where a test passes.
 length-cond : {A : Type 0} (t : Bool) (x : A) (l : List A) → length (cond t (x ∷ l) l) ≡ only t 1 + length l

@@ -25,9 +25,10 @@ text_taken s sound = rw sound
 pub returns-then-is_faulty : goal.returns-then-is_faulty
 returns-then-is_faulty c =
     let a = c.args in
-    put_whole a.buffer.now _ (answer_text a.text.now) _
+    let r = put_whole a.buffer.now _ (answer_text a.text.now) _
     (omega (arith, answers_fit a.text.now, c.put_fault-arg-1.given.0.1))
-    (rw (text_faulty a.text.now (sym c.is_faulty.ensures ∙ c.if-is_faulty.true)) c.put_fault.ensures)
+    (rw (text_faulty a.text.now (sym c.is_faulty.ensures ∙ c.if-is_faulty.true)) c.put_fault.ensures) in
+    record { written = r.0; counted = r.1 }
 
 pub put_answers-requires : goal.put_answers-requires
 put_answers-requires c =
@@ -37,8 +38,9 @@ pub returns : goal.returns
 returns c =
     let a = c.args in
     let s = a.text.now in
-    put_whole a.buffer.now _ (answer_text s) _
+    let r = put_whole a.buffer.now _ (answer_text s) _
     (omega (arith, answers_fit s, c.put_bytes-arg-1.given.0.1))
     (rw (text_taken s (sym c.is_faulty.ensures ∙ c.if-is_faulty.false))
     (put_then a.buffer.now _ _ _ _ _ answer_names (answer_lines 1 (answers_of s)) c.put_bytes-end.ensures
-    c.put_answers.ensures))
+    c.put_answers.ensures)) in
+    record { written = r.0; counted = r.1 }

@@ -10,6 +10,7 @@ use Rattle.monitor.proofs.list_table.list_table.Goals as goal
 pub returns : goal.returns
 returns c =
     let given = c.args in
-    put_whole given.buffer.now _ (list_text given.text.now given.days) _
+    let r = put_whole given.buffer.now _ (list_text given.text.now given.days) _
     (omega (arith, lists_fit given.text.now given.days))
-    (rw c.replay.ensures.0 at c.put_lists.ensures)
+    (rw c.replay.ensures.replays at c.put_lists.ensures) in
+    record { written = r.0; counted = r.1 }

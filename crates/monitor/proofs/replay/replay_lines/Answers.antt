@@ -18,7 +18,9 @@ use Rattle.book.proofs.Functions.InPlace.{late_within, places-within, all_fails,
 use Rattle.lines.proofs.Theorems.Texts.{next_place}
 use Rattle.monitor.proofs.Functions.Replaying.{line_here, made_accepted, made_book, replay_start, replay_room, replay_line, replay_end}
 use Rattle.std.proofs.lemmas.Bool.{not_from_false, not_from_true}
+use mathlib.Core.Logic.{inl, inr}
 use Rattle.monitor.proofs.replay.replay_lines.Goals as goal
+use Rattle.monitor.proofs.replay.replay_lines.Goals.{else-loop-i-test, then-loop-i-test+then-is_at}
 
 -- ---- the loops
 
@@ -113,71 +115,50 @@ loop-n-preserved c =
 
 -- ---- the call is made
 
--- the line that it was read from
-abbrev line_of : goal.After-at_place-left invariant-loop2 decreases-loop2 invariant-loop3 decreases-loop3 invariant-loop4 decreases-loop4 invariant-loop decreases-loop
-    → goal.In-Correct-2 invariant-loop2 decreases-loop2 invariant-loop3 decreases-loop3 invariant-loop4 decreases-loop4 invariant-loop decreases-loop
-line_of c = c.before.before.before.before.before.before.before.before.before.before.before.before
-
--- what it left at the place where the search ended
-abbrev place_of : goal.After-loop-n invariant-loop2 decreases-loop2 invariant-loop3 decreases-loop3 invariant-loop4 decreases-loop4 invariant-loop decreases-loop
-    → goal.After-at_place-left invariant-loop2 decreases-loop2 invariant-loop3 decreases-loop3 invariant-loop4 decreases-loop4 invariant-loop decreases-loop
-place_of c = c.before.before.before.before.before.before.before.before.before
-
--- that, with the fails counted, is what becomes of the book
-made : (c : goal.After-loop-n invariant-loop2 decreases-loop2 invariant-loop3 decreases-loop3 invariant-loop4 decreases-loop4 invariant-loop decreases-loop) →
-    let line = line_of (place_of c) in
-    Applied line.before.before.before.before.before.loop.book line.line.given.0.0
-    (made_in c.before.loop4.book (place_of c).at_place.result)
-made c =
-    let places = c.before.loop4 in
-    let days = c.before.before.before.loop3 in
-    let done = place_of c in
-    let receiver = done.before.before.before.before in
-    let deliverer = receiver.before in
-    let cell = deliverer.before in
-    let left = cell.before.before in
-    let search = left.before in
-    let looks = search.before in
-    let b = looks.before.before.before.before.before.before.before.loop.book in
-    let i = search.loop2.i in
-    place_applied b places.book i _ done.at_place.result
-    (sym (places.invariant.1 ∙ days.invariant.1))
-    (all_fails b.today _ done.at_place.result _ days.book places.book days.day places.n (omega arith)
-    (omega arith) days.invariant.1 days.invariant.3 places.invariant.3)
-    (sym (places.invariant.2 ∙ days.invariant.2))
-    _
-    (subst (λ (x : Sought). Ended (is_sought x) b.pairs i) looks.sought.ensures
-    (ended (is_sought looks.sought.result) b.pairs i search.loop2.inv left.loop2-test.came (λ u. u.left)
-    (λ u. sym u.2.ensures ∙ u.3.taken)))
-    (same_places _ _ cell.cell-place.ensures.value deliverer.deliverer-place.ensures.value
-    receiver.receiver-place.ensures.value)
-    done.at_place.ensures
-
 pub with_line-counts-requires : goal.with_line-counts-requires
 with_line-counts-requires c =
-    let turn = (line_of (place_of c.before)).before.before.before.before in
-    let so = turn.before.loop.inv in
-    replay_room _ _ _ _ turn.loop-test.taken so.1 so.0
+    let so = c.loop-at.invariant in
+    replay_room _ _ _ _ c.loop-at-test.true so.1 so.0
 
 pub loop-at-smaller-in-Correct : goal.loop-at-smaller-in-Correct
 loop-at-smaller-in-Correct c =
-    let read = (line_of (place_of c.before.before)).before.before in
-    omega (arith, next_place _ _ read.next-line2.ensures read.before.before.loop-test.taken)
+    omega (arith, next_place _ _ c.next_line-at-in-loop-at.ensures c.loop-at-test.true)
 
 pub loop-at-preserved-in-Correct : goal.loop-at-preserved-in-Correct
 loop-at-preserved-in-Correct c =
-    let line = line_of (place_of c.before.before) in
-    let read = line.before.before in
-    let turn = read.before.before in
-    let so = turn.before.loop.inv in
-    let r = made_in c.loop-n.book (place_of c.before.before).at_place.result in (
+    let so = c.loop-at.invariant in
+    let b = c.loop-at.book in
+    let places = c.loop-n in
+    let days = c.loop-day in
+    let left = c.at_place-left in
+    let end : Ended (is_sought c.sought-sought.result) b.pairs c.loop-i.i = record {
+      searched = c.loop-i.invariant;
+      stopped =
+          elim c.loop-i-test.branch [
+            | else-loop-i-test w ↦ inl (omega (arith, w.loop-i-test.false, c.loop-i.invariant.0))
+            | then-loop-i-test+then-is_at w ↦ inr (sym w.is_at.ensures ∙ w.if-is_at.true)
+          ];
+    } in
+    let r = made_in places.book left.result in
+    let made =
+    place_applied b places.book c.loop-i.i _ left.result
+    (sym (places.invariant.1 ∙ days.invariant.1))
+    (all_fails b.today _ left.result _ days.book places.book days.day places.n (omega arith)
+    (omega arith) days.invariant.1 days.invariant.3 places.invariant.3)
+    (sym (places.invariant.2 ∙ days.invariant.2))
+    _
+    (subst (λ (x : Sought). Ended (is_sought x) b.pairs c.loop-i.i) c.sought-sought.ensures end)
+    (same_places _ _ c.cell_place-cell_at.ensures.value c.deliverer_place-deliverer_at.ensures.value
+    c.receiver_place-receiver_at.ensures.value)
+    left.ensures
+    in (
       so.0,
-      replay_line _ _ _ _ turn.loop-test.taken so.1 _ _ _ _ _
-          (line_here _ _ _ _ read.before.read-line.ensures line.line.given.1)
-          (made_accepted _ _ r (made c.before.before) _ c.is_accepted.ensures)
-          (made_book _ _ r (made c.before.before))
+      replay_line _ _ _ _ c.loop-at-test.true so.1 _ _ _ _ _
+          (line_here _ _ _ _ c.read_line-line.ensures c.in-Correct.is)
+          (made_accepted _ _ r made _ c.is_accepted.ensures)
+          (made_book _ _ r made)
           c.with_line-counts.ensures
-          read.next-line2.ensures,
+          c.next_line-at-in-loop-at.ensures,
     )
 
 -- ---- a wrong line

@@ -10,6 +10,7 @@ use Rattle.monitor.proofs.report_table.report_table.Goals as goal
 pub returns : goal.returns
 returns c =
     let given = c.args in
-    put_whole given.buffer.now _ (report_text given.text.now given.days) _
+    let r = put_whole given.buffer.now _ (report_text given.text.now given.days) _
     (omega (arith, reports_fit given.text.now given.days))
-    (rw c.replay.ensures.0 at c.put_reports.ensures)
+    (rw c.replay.ensures.replays at c.put_reports.ensures) in
+    record { written = r.0; counted = r.1 }

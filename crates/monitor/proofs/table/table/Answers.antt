@@ -8,6 +8,7 @@ use Rattle.monitor.proofs.table.table.Goals as goal
 pub returns : goal.returns
 returns c =
     let a = c.args in
-    put_whole a.buffer.now _ (table_text a.text.now) _
+    let r = put_whole a.buffer.now _ (table_text a.text.now) _
     (omega (arith, tables_fit a.text.now, c.put_table-arg-1.given.0.1))
-    (rw c.replay.ensures.0 at c.put_table.ensures)
+    (rw c.replay.ensures.replays at c.put_table.ensures) in
+    record { written = r.0; counted = r.1 }

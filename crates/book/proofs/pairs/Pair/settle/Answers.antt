@@ -14,7 +14,9 @@ settled c = sym c.settle_answer-answer.ensures ∙ ap answer_number c.in-Accepte
 
 pub with_part-requires : goal.with_part-requires
 with_part-requires c =
-    let a = c.args in settle_fits a.today a.id a.part a.self (settled c)
+    let a = c.args in
+    let fits = settle_fits a.today a.id a.part a.self (settled c) in
+    record { today_lt_day_limit = fits.0; part_le_rest = fits.1 }
 
 pub returns-in-Accepted : goal.returns-in-Accepted
 returns-in-Accepted c =

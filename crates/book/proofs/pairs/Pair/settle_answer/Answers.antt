@@ -1,5 +1,10 @@
 -- `Pair::settle_answer` meets its contract: each answer by what the tests before it showed. Past the tests of the day and
 -- of the id, the answer looks at the pair of the place. Assumes nothing.
+use Prim.Native.Nat.{ℕ, ◌≤◌, ◌<◌}
+use native.Mathlib.Omega.{arith}
+use Rattle.book.specs.Pairs.{Pair}
+use Rattle.book.specs.Calls.{is_open_pair}
+use mathlib.Core.Bool.{true, false}
 use mathlib.Core.Path.{◌≡◌, sym, ◌∙◌}
 use mathlib.Core.Bool.{◌||◌}
 use lib.Dec.{ltb, eqb}
@@ -14,31 +19,25 @@ use Rattle.std.proofs.lemmas.Bool.{not_from_false, not_from_true}
 use Rattle.book.proofs.pairs.Pair.settle_answer.Goals as goal
 
 -- where the pair is the open one of the id, what comes back is that of the later tests
-past_open : (c : goal.Else-not-is_open_with) → let a = c.args in
-    answer (at_found a.today a.self) (Call.Settle a.id a.part)
-    ≡ refused (ltb a.today a.self.terms.isd) 6
-    (refused (any_hold a.self.holds) 7
-    (refused (eqb a.part 0 || ltb a.self.rest a.part) 8 accepted))
+past_open : (today id part : ℕ) (p : Pair) → today < day_limit → is_open_pair id p ≡ true
+    → answer (at_found today p) (Call.Settle id part)
+    ≡ refused (ltb today p.terms.isd) 6
+    (refused (any_hold p.holds) 7
+    (refused (eqb part 0 || ltb p.rest part) 8 accepted))
 unfolding answer
-past_open c =
-    let a = c.args in
-    let h = passed c.is_open_with.ensures (not_from_true _ c.if-not-is_open_with.false) in
-    rw (lt-leb day_limit a.today c.if-today-ge-DAYS.false, h, is_open_lem a.id a.self h)
+past_open today id part p running h = rw (lt-leb day_limit today running, h, is_open_lem id p h)
 
 -- where it is due too
-past_due : (c : goal.Else-today-wide) → let a = c.args in
-    answer (at_found a.today a.self) (Call.Settle a.id a.part)
-    ≡ refused (any_hold a.self.holds) 7 (refused (eqb a.part 0 || ltb a.self.rest a.part) 8 accepted)
-past_due c =
-    let a = c.args in
-    past_open c.before.before
-    ∙ rw (sym c.wide.ensures, le-ltb a.today c.wide.result c.if-today-wide.false)
+past_due : (today id part : ℕ) (p : Pair) → today < day_limit → is_open_pair id p ≡ true → p.terms.isd ≤ today
+    → answer (at_found today p) (Call.Settle id part)
+    ≡ refused (any_hold p.holds) 7 (refused (eqb part 0 || ltb p.rest part) 8 accepted)
+past_due today id part p running h due = past_open today id part p running h ∙ rw (le-ltb today p.terms.isd due)
 
 -- where no hold is on too
-past_holds : (c : goal.Else-any) → let a = c.args in
-    answer (at_found a.today a.self) (Call.Settle a.id a.part)
-    ≡ refused (eqb a.part 0 || ltb a.self.rest a.part) 8 accepted
-past_holds c = past_due c.before.before ∙ rw (sym c.any.ensures, c.if-any.false)
+past_holds : (today id part : ℕ) (p : Pair) → today < day_limit → is_open_pair id p ≡ true → p.terms.isd ≤ today
+    → any_hold p.holds ≡ false
+    → answer (at_found today p) (Call.Settle id part) ≡ refused (eqb part 0 || ltb p.rest part) 8 accepted
+past_holds today id part p running h due free = past_due today id part p running h due ∙ rw free
 
 pub returns-then-today-ge-DAYS : goal.returns-then-today-ge-DAYS
 unfolding answer
@@ -57,23 +56,23 @@ pub returns-then-today-wide : goal.returns-then-today-wide
 returns-then-today-wide c =
     let today = c.args.today in
     rw (
-      past_open c.before.before,
+      past_open c.args.today c.args.id c.args.part c.args.self c.if-today-ge-DAYS.false (passed c.is_open_with.ensures (not_from_true _ c.if-not-is_open_with.false)),
       sym c.wide.ensures,
       lt-ltb today c.wide.result c.if-today-wide.true,
     )
 
 pub returns-then-any : goal.returns-then-any
-returns-then-any c = rw (past_due c.before.before, sym c.any.ensures, c.if-any.true)
+returns-then-any c = rw (past_due c.args.today c.args.id c.args.part c.args.self c.if-today-ge-DAYS.false (passed c.is_open_with.ensures (not_from_true _ c.if-not-is_open_with.false)) (omega (arith, c.wide.ensures, c.if-today-wide.false)), sym c.any.ensures, c.if-any.true)
 
 pub returns-then-part-eq0 : goal.returns-then-part-eq0
-returns-then-part-eq0 c = rw (past_holds c.before, c.if-part-eq0.true)
+returns-then-part-eq0 c = rw (past_holds c.args.today c.args.id c.args.part c.args.self c.if-today-ge-DAYS.false (passed c.is_open_with.ensures (not_from_true _ c.if-not-is_open_with.false)) (omega (arith, c.wide.ensures, c.if-today-wide.false)) (sym c.any.ensures ∙ c.if-any.false), c.if-part-eq0.true)
 
 pub returns-then-self-part : goal.returns-then-self-part
 returns-then-self-part c =
     let a = c.args in
-    rw (past_holds c.before.before.before, ne_eqb a.part 0 c.if-part-eq0.false, lt-ltb a.self.rest a.part c.if-self-part.true)
+    rw (past_holds c.args.today c.args.id c.args.part c.args.self c.if-today-ge-DAYS.false (passed c.is_open_with.ensures (not_from_true _ c.if-not-is_open_with.false)) (omega (arith, c.wide.ensures, c.if-today-wide.false)) (sym c.any.ensures ∙ c.if-any.false), ne_eqb a.part 0 c.if-part-eq0.false, lt-ltb a.self.rest a.part c.if-self-part.true)
 
 pub returns : goal.returns
 returns c =
     let a = c.args in
-    rw (past_holds c.before.before.before, ne_eqb a.part 0 c.if-part-eq0.false, le-ltb a.self.rest a.part c.if-self-part.false)
+    rw (past_holds c.args.today c.args.id c.args.part c.args.self c.if-today-ge-DAYS.false (passed c.is_open_with.ensures (not_from_true _ c.if-not-is_open_with.false)) (omega (arith, c.wide.ensures, c.if-today-wide.false)) (sym c.any.ensures ∙ c.if-any.false), ne_eqb a.part 0 c.if-part-eq0.false, le-ltb a.self.rest a.part c.if-self-part.false)

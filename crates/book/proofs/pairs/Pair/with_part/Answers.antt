@@ -10,4 +10,4 @@ next_day : (today : ℕ) → today < day_limit → (today + 1) % 256 ≡ suc tod
 next_day today h = omega arith
 
 pub returns : goal.returns
-returns c = rw (next_day c.args.today c.requires.0)
+returns c = rw (next_day c.args.today c.requires.today_lt_day_limit)
