@@ -4,25 +4,35 @@ use lines::lines::first_call_line;
 use lines::reading::Line;
 
 // What the reader says of a file's first call line.
-fn say_first_line(text: &[u8]) {
+fn say_first_line<R: Print>(rt: &R, text: &[u8]) {
     let line = first_call_line(text);
     match line {
-        Line::Correct(_) => say(b"correct"),
+        Line::Correct(_) => say(rt, b"correct"),
         Line::Wrong(place) => {
-            say(b"wrong at ");
-            say_number(place as u64);
+            say(rt, b"wrong at ");
+            say_number(rt, place as u64);
         }
-        Line::NoLine => say(b"no line"),
+        Line::NoLine => say(rt, b"no line"),
     }
-    say(b": the first call line of a file, by the reader of lines\n");
+    say(
+        rt,
+        b": the first call line of a file, by the reader of lines\n",
+    );
 }
 
 // A correct line, one that ends too early, and none.
-pub fn of_three_files() {
-    say(b"\nThe reader of lines\n");
+pub fn of_three_files<R: Print>(rt: &R) {
+    say(rt, b"\nThe reader of lines\n");
     say_first_line(
+        rt,
         b"call,id,kind,category,day,side,amount,deliverer,receiver\n6,0,0,0,0,0,0,0,0\n",
     );
-    say_first_line(b"call,id,kind,category,day,side,amount,deliverer,receiver\n6,0,0\n");
-    say_first_line(b"call,id,kind,category,day,side,amount,deliverer,receiver\n");
+    say_first_line(
+        rt,
+        b"call,id,kind,category,day,side,amount,deliverer,receiver\n6,0,0\n",
+    );
+    say_first_line(
+        rt,
+        b"call,id,kind,category,day,side,amount,deliverer,receiver\n",
+    );
 }

@@ -12,16 +12,16 @@ mod listing; // lists of participants, and rates compared
 mod large_numbers; // rates and durations, also of large numbers
 mod first_line; // the reader of lines
 
-fn main() {
-    rows::say_columns();
-    reporting::say_columns();
-    rows::of_one_category();
-    rows::short_buffer();
-    reporting::one_category();
-    reporting::single_days();
-    reporting::nine_categories();
-    listing::of_runs();
-    large_numbers::rates_and_durations();
-    listing::rates_compared();
-    first_line::of_three_files();
+fn main(rt: HostRuntime) {
+    rows::say_columns(&rt);
+    reporting::say_columns(&rt);
+    rows::of_one_category(&rt);
+    rows::short_buffer(&rt);
+    reporting::one_category(&rt);
+    reporting::single_days(&rt);
+    reporting::nine_categories(&rt);
+    listing::of_runs(&rt);
+    large_numbers::rates_and_durations(&rt);
+    listing::rates_compared(&rt);
+    first_line::of_three_files(&rt);
 }

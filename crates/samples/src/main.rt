@@ -12,85 +12,98 @@ use monitor::list_table::{LIST_ROOM, list_table};
 use monitor::replay::FILE_ROOM;
 use monitor::report_table::{REPORT_ROOM, report_table};
 use monitor::table::{TABLE_ROOM, table};
+use std::env::FillError;
+use std::rt::{Env, Files};
 use streams::write_text;
 
-fn main() {
-    let count = os::arg_count();
-    let mut i: usize = 1;
-    while i < count {
-        hold_argument(i);
-        i += 1;
+// As long as a stored text may be.
+const STORED_ROOM: usize = 65536;
+
+fn main(rt: HostRuntime) {
+    for i in 1..usize::MAX {
+        if !hold_argument(&rt, i) {
+            break;
+        }
     }
 }
 
-// The example that an argument names.
-fn hold_argument(i: usize) {
+// The example that an argument names, and whether there is that argument. A name that is too long names no file.
+fn hold_argument<R: Env + Files + Print + Eprint>(rt: &R, i: usize) -> bool {
     let mut name = [0u8; 64];
-    let n = os::arg(i, &mut name);
-    hold_example(&name[..n]);
+    match rt.arg(i, &mut name) {
+        Ok(n) => {
+            hold_example(rt, &name[..n]);
+            true
+        }
+        Err(FillError::TooLong) => {
+            hold_example(rt, b"");
+            true
+        }
+        Err(FillError::NotPresent) => false,
+    }
 }
 
 // The texts of an example.
-fn hold_example(name: &[u8]) {
-    write_text(name);
-    write_text(b":");
+fn hold_example<R: Files + Print + Eprint>(rt: &R, name: &[u8]) {
+    write_text(rt, name);
+    write_text(rt, b":");
     let mut file = [0u8; FILE_ROOM];
-    let input = read_file(name, b".csv", &mut file);
+    let input = read_file(rt, name, b".csv", &mut file);
     if input.failed {
-        write_text(b" can't be read\n");
+        write_text(rt, b" can't be read\n");
         return;
     }
     let n = input.count;
-    hold_texts(name, &file[..n]);
-    write_text(b" as stored\n");
+    hold_texts(rt, name, &file[..n]);
+    write_text(rt, b" as stored\n");
 }
 
 // Each text of a file.
-fn hold_texts(name: &[u8], file: &[u8]) {
-    hold_table(name, file);
-    hold_reports(name, file);
-    hold_lists(name, file);
-    hold_answers(name, file);
+fn hold_texts<R: Files + Print + Eprint>(rt: &R, name: &[u8], file: &[u8]) {
+    hold_table(rt, name, file);
+    hold_reports(rt, name, file);
+    hold_lists(rt, name, file);
+    hold_answers(rt, name, file);
 }
 
 // Its table.
-fn hold_table(name: &[u8], file: &[u8]) {
+fn hold_table<R: Files + Print + Eprint>(rt: &R, name: &[u8], file: &[u8]) {
     let mut text = [0u8; TABLE_ROOM];
     let count = table(file, &mut text);
-    hold(name, b".table", b" table", &text[..count]);
+    hold(rt, name, b".table", b" table", &text[..count]);
 }
 
 // Its reports over all closed days.
-fn hold_reports(name: &[u8], file: &[u8]) {
+fn hold_reports<R: Files + Print + Eprint>(rt: &R, name: &[u8], file: &[u8]) {
     let mut text = [0u8; REPORT_ROOM];
     let count = report_table(file, Days::AllClosed, &mut text);
-    hold(name, b".report", b" report", &text[..count]);
+    hold(rt, name, b".report", b" report", &text[..count]);
 }
 
 // Its participants with the highest fail rates over all closed days.
-fn hold_lists(name: &[u8], file: &[u8]) {
+fn hold_lists<R: Files + Print + Eprint>(rt: &R, name: &[u8], file: &[u8]) {
     let mut text = [0u8; LIST_ROOM];
     let count = list_table(file, Days::AllClosed, &mut text);
-    hold(name, b".worst", b" worst", &text[..count]);
+    hold(rt, name, b".worst", b" worst", &text[..count]);
 }
 
 // Its answers.
-fn hold_answers(name: &[u8], file: &[u8]) {
+fn hold_answers<R: Files + Print + Eprint>(rt: &R, name: &[u8], file: &[u8]) {
     let mut text = [0u8; ANSWER_ROOM];
     let count = answer_table(file, &mut text);
-    hold(name, b".answers", b" answers", &text[..count]);
+    hold(rt, name, b".answers", b" answers", &text[..count]);
 }
 
 // The word of a text is written where it is the stored one. No word is written where none is stored.
-fn hold(name: &[u8], ending: &[u8], word: &[u8], text: &[u8]) {
-    let mut stored = io::large_buffer();
-    let input = read_file(name, ending, &mut stored);
+fn hold<R: Files + Print + Eprint>(rt: &R, name: &[u8], ending: &[u8], word: &[u8], text: &[u8]) {
+    let mut stored = [0u8; STORED_ROOM];
+    let input = read_file(rt, name, ending, &mut stored);
     if input.failed {
         return;
     }
     let n = input.count;
-    if !check::same(&stored[..n], text) {
-        write_text(b" ANOTHER");
+    if &stored[..n] != text {
+        write_text(rt, b" ANOTHER");
     }
-    write_text(word);
+    write_text(rt, word);
 }

@@ -2,10 +2,9 @@
 // writes is not proved.
 #![tactic(auto)]
 
-ghost use Rattle.std.specs.Prelude.{◌+◌, ◌≤◌, length};
-ghost use Rattle.io.specs.Counts.{IsPrefixLen};
+ghost use Rattle.streams.specs.Counts.{IsPrefixLen};
 
-use libc::{STDERR_FILENO, STDOUT_FILENO};
+use std::io::{self, Read, Write};
 
 // How many bytes were read, which stand at the buffer's start, and whether a read failed.
 #[derive(Clone, Copy)]
@@ -14,34 +13,29 @@ pub struct Input {
     pub failed: bool,
 }
 
-// Reads once, into the buffer from a place on; no byte is read where the input ends.
-fn read_from(descriptor: i32, buffer: &mut [u8], at: usize) -> Input
-    requires { at ≤ length buffer.old }
-    ensures { at + result.count ≤ length buffer.new }
-{
-    let got = libc::read(descriptor, &mut buffer[at..]);
-    let count = io::count(got, &buffer[at..]);
-    Input {
-        count: count,
-        failed: got < 0,
-    }
-}
-
 // Reads until the buffer is full, the input ends or a read fails.
-pub fn read_all(descriptor: i32, buffer: &mut [u8]) -> Input
+pub fn read_all<R: Read>(reader: &mut R, buffer: &mut [u8]) -> Input
     ensures { IsPrefixLen result.count buffer.new }
 {
     let mut at: usize = 0;
     while at < buffer.len() {
-        let input = read_from(descriptor, buffer, at);
-        let count = input.count;
-        if count == 0 {
-            return Input {
-                count: at,
-                failed: input.failed,
-            };
+        match reader.read(&mut buffer[at..]) {
+            Ok(count) => {
+                if count == 0 {
+                    return Input {
+                        count: at,
+                        failed: false,
+                    };
+                }
+                at += count;
+            }
+            Err(_error) => {
+                return Input {
+                    count: at,
+                    failed: true,
+                };
+            }
         }
-        at += count;
     }
     Input {
         count: at,
@@ -50,18 +44,22 @@ pub fn read_all(descriptor: i32, buffer: &mut [u8]) -> Input
 }
 
 // A text on standard output; where it can't be written, that is said on standard error.
-pub fn write_text(text: &[u8]) {
-    if !io::write_all(STDOUT_FILENO, text) {
-        say(b"girpelso: standard output can't be written\n");
+pub fn write_text<R: Print + Eprint>(rt: &R, text: &[u8]) {
+    match io::writer(rt).write_all(text) {
+        Ok(()) => {}
+        Err(_error) => say(rt, b"girpelso: standard output can't be written\n"),
     }
 }
 
 // A message where a read of standard input failed.
-pub fn say_unread() {
-    say(b"girpelso: standard input can't be read\n");
+pub fn say_unread<R: Eprint>(rt: &R) {
+    say(rt, b"girpelso: standard input can't be read\n");
 }
 
-// A message on standard error.
-pub fn say(message: &[u8]) {
-    let _written = io::write_all(STDERR_FILENO, message);
+// A message on standard error, as text: bytes that are no UTF-8 are left out.
+pub fn say<R: Eprint>(rt: &R, message: &[u8]) {
+    for chunk in message.utf8_chunks() {
+        let text = chunk.valid();
+        let _written = eprint!(rt; "{text}");
+    }
 }

@@ -3,37 +3,37 @@
 #![tactic(auto)]
 
 use arguments::{Asked, asked_days};
-use libc::STDIN_FILENO;
 use monitor::days::Days;
 use monitor::list_table::{LIST_ROOM, list_table};
 use monitor::replay::FILE_ROOM;
 use streams::{read_all, say, say_unread, write_text};
 
-fn main() {
-    let asked = asked_days();
+fn main(rt: HostRuntime) {
+    let asked = asked_days(&rt);
     match asked {
-        Asked::Known(days) => read_and_write(days),
+        Asked::Known(days) => read_and_write(&rt, days),
         Asked::Unknown => say(
+            &rt,
             b"girpelso: the days of a list are two numbers, the first and the last\n",
         ),
     }
 }
 
 // The lists of the file on standard input.
-fn read_and_write(days: Days) {
+fn read_and_write<R: Input + Print + Eprint>(rt: &R, days: Days) {
     let mut file = [0u8; FILE_ROOM];
-    let input = read_all(STDIN_FILENO, &mut file);
+    let input = read_all(&mut rt.reader(), &mut file);
     if input.failed {
-        say_unread();
+        say_unread(rt);
         return;
     }
     let n = input.count;
-    write_lists(&file[..n], days);
+    write_lists(rt, &file[..n], days);
 }
 
 // The lists of a file.
-fn write_lists(file: &[u8], days: Days) {
+fn write_lists<R: Print + Eprint>(rt: &R, file: &[u8], days: Days) {
     let mut text = [0u8; LIST_ROOM];
     let count = list_table(file, days, &mut text);
-    write_text(&text[..count]);
+    write_text(rt, &text[..count]);
 }
