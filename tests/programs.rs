@@ -57,7 +57,7 @@ impl Text {
     /// The text of the proved program. A message on standard error, or another status than 0, makes it a wrong one.
     pub fn by_program(&self, file: &[u8]) -> Vec<u8> {
         let command = self.command();
-        let path: PathBuf = ["target", "bin", &command[0]].iter().collect();
+        let path: PathBuf = ["crates", &command[0], "out", &command[0]].iter().collect();
         let mut child = Command::new(path)
             .args(&command[1..])
             .stdin(Stdio::piped())

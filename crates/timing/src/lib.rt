@@ -1,4 +1,4 @@
-// Calls to be timed from Rust: bench/run. Each starts from a full book, so that what is timed is the calls.
+// Calls to be timed from Rust by crates/timing_c: bench/run. Each starts from a full book, so that what is timed is the calls.
 #![tactic(auto)]
 
 ghost use Rattle.std.specs.Prelude.{◌≤◌};
@@ -9,9 +9,9 @@ use book::limits::LARGEST_CODE;
 use book::pairs::Entry;
 use book::rows::RowAnswer;
 
-mod reads; // lines to be read
-mod tables; // the table of a file
-mod lists; // the lists of a file
+pub mod reads; // lines to be read
+pub mod tables; // the table of a file
+pub mod lists; // the lists of a file
 
 // A pair due on day 0; ids side by side differ in category, kind and deliverer.
 fn entry_of(id: u64) -> Entry {
@@ -50,14 +50,12 @@ fn securities_on(book: Book, day: u64) -> u64 {
 }
 
 // 64 closes of the full book, one for each day, so many times over: what failed on the last day.
-#[unsafe(no_mangle)]
-pub extern "C" fn closes(times: u64) -> u64 {
+pub fn closes(times: u64) -> u64 {
     closes_of(full(), times)
 }
 
 // The same of a book with no open pair, in which nothing fails.
-#[unsafe(no_mangle)]
-pub extern "C" fn empty_closes(times: u64) -> u64 {
+pub fn empty_closes(times: u64) -> u64 {
     closes_of(Book::fresh(), times)
 }
 
@@ -86,8 +84,7 @@ fn close_all(start: Book) -> u64 {
 }
 
 // So many holds of the last pair, on and off: how many were accepted.
-#[unsafe(no_mangle)]
-pub extern "C" fn holds(times: u64) -> u64
+pub fn holds(times: u64) -> u64
     ensures { result ≤ times }
 {
     let mut book = full();
@@ -105,8 +102,7 @@ pub extern "C" fn holds(times: u64) -> u64
 }
 
 // So many settles of one cent of the last pair: how many were accepted.
-#[unsafe(no_mangle)]
-pub extern "C" fn settles(times: u64) -> u64
+pub fn settles(times: u64) -> u64
     ensures { result ≤ times }
 {
     let mut book = full();
@@ -124,8 +120,7 @@ pub extern "C" fn settles(times: u64) -> u64
 }
 
 // So many enters into the full book: how many were accepted, which is none.
-#[unsafe(no_mangle)]
-pub extern "C" fn enters(times: u64) -> u64
+pub fn enters(times: u64) -> u64
     ensures { result ≤ times }
 {
     let mut book = full();
@@ -144,8 +139,7 @@ pub extern "C" fn enters(times: u64) -> u64
 
 // So many times the pair in the last place is cancelled and another entered there: how many enters were accepted. Ids go up
 // to 61,023, so 60,000 times at most.
-#[unsafe(no_mangle)]
-pub extern "C" fn replaces(times: u64) -> u64
+pub fn replaces(times: u64) -> u64
     ensures { result ≤ times }
 {
     let mut book = full();

@@ -1,4 +1,4 @@
-// Lines to be read, timed from Rust: bench/run. All values of a line are used, so that none is left unread.
+// Lines to be read, timed from Rust by crates/timing_c: bench/run. All values of a line are used, so that none is left unread.
 use book::calls::Call;
 use lines::reading::{Line, next_line, read_line};
 use std::num::wrapping_add_u64;
@@ -61,8 +61,7 @@ fn sum_of_lines(text: &[u8]) -> u64 {
 
 // A full file read so many times, so that no compiler can read it once for all: another call number in its first line each
 // time, which mostly makes that line wrong. The sum at the last.
-#[unsafe(no_mangle)]
-pub extern "C" fn reads(times: u64) -> u64 {
+pub fn reads(times: u64) -> u64 {
     let mut text = full_file();
     let mut sum: u64 = 0;
     let mut n: u64 = 0;
