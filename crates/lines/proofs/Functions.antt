@@ -4,5 +4,3 @@
 pub mod Reading
 -- the loop of `put_line`
 pub mod Putting
-
--- the walks over `Lines`, by hand

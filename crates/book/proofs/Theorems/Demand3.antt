@@ -15,7 +15,6 @@ use Rattle.book.specs.Rows.{row_of, is_closed, row_answer}
 use Rattle.book.specs.History.{Measure, day_of, closed, pairs, due_of, cancelled_of, part_settled_of, counts, sum_over}
 use Rattle.book.specs.Balance.{book_after, accepted_of, in_measure, fails_of, previous_fails, ClosedDaysAreGiven, Demand3}
 use Rattle.book.specs.Counted.{settled, securities, cash, column, counted, view_of_calls}
-use Rattle.book.specs.Exact.{most}
 use Rattle.book.proofs.Theorems.Sums.{tests, only_zero, total_only_add, total_none, total_all}
 use Rattle.book.proofs.Theorems.Allowed.{allowed}
 use Rattle.book.proofs.Theorems.Proper.{Proper}

@@ -1,6 +1,5 @@
 -- `has_names` meets its contract: at each turn of its loop, the text starts with the names line exactly where, from the
 -- present place on, it starts with what is left of that line. Assumes nothing.
-use Prim.Native.Nat.{◌-◌}
 use native.Mathlib.Omega.{arith}
 use lib.ListN.{length}
 use mathlib.Core.Path.{◌≡◌, refl, sym, ◌∙◌}

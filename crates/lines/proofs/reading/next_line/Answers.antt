@@ -1,6 +1,5 @@
 -- `next_line` meets its contract: at each turn of its loop, the next line starts where it starts from the present place on.
 -- Assumes nothing.
-use Prim.Native.Nat.{◌-◌}
 use mathlib.Core.Path.{refl, sym, ◌∙◌}
 use Rattle.lines.proofs.Functions.Reading.{next_at_feed, next_at_other, next_at_end}
 use Rattle.lines.proofs.reading.next_line.Goals as goal

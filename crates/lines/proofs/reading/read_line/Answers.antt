@@ -1,6 +1,5 @@
 -- `read_line` meets its contract: at each turn of its loop, what the scan makes of the line is what it makes of the bytes
 -- from the present place on. Assumes nothing.
-use Prim.Native.Nat.{◌-◌}
 use native.Mathlib.Omega.{arith}
 use Rattle.lines.proofs.Functions.Reading.{read_none, read_start, read_out, digit_fitting, digit_short, read_digit, read_comma, read_last, read_wrong}
 use Rattle.lines.proofs.reading.read_line.Goals as goal

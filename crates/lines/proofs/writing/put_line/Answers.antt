@@ -1,6 +1,4 @@
 -- `put_line` meets its contract: each turn of its loop puts the next field and the byte behind it. Assumes nothing.
-use Prim.Native.Nat.{◌-◌}
-use lib.ListN.{length}
 use Rattle.lines.proofs.Theorems.Buffers.{put_leaves, put_none}
 use Rattle.lines.proofs.Functions.Putting.{put_field, put_fields}
 use Rattle.lines.proofs.writing.put_line.Goals as goal

@@ -1,6 +1,5 @@
 -- `Book::add_late` meets its contract: on each day, what the days left post to the figures now is what all late days post to
 -- those at the start. Assumes nothing.
-use Prim.Native.Nat.{◌-◌}
 use native.Mathlib.Omega.{arith}
 use mathlib.Core.Path.{refl, sym, ◌∙◌}
 use Rattle.book.proofs.Functions.Ledger.{ledger, same_places}

@@ -1,6 +1,5 @@
 -- `Book::close` meets its contract: at each turn of the loop, what the places left post to the figures now is what all places
 -- post to those at the start. Assumes nothing.
-use Prim.Native.Nat.{◌-◌}
 use native.Mathlib.Omega.{arith}
 use mathlib.Core.Path.{refl, ◌∙◌}
 use Rattle.book.proofs.Functions.Tested.{failed, passed}

@@ -1,6 +1,6 @@
 -- `Book::enter` meets its contract: the search ends at the first free place, or at the last one where the book is full, and
 -- what `Entry::enter` makes of that place, with the days that the pair is late, is what becomes of the book. Assumes nothing.
-use Prim.Native.Nat.{ℕ, ◌-◌}
+use Prim.Native.Nat.{ℕ}
 use mathlib.Core.Logic.{inl, inr}
 use Rattle.book.specs.Pairs.{Entry}
 use Rattle.book.specs.declared.entering.Entered.{Entered}

@@ -1,7 +1,6 @@
 -- `Book::settle` meets its contract: the search ends at the place of the open pair of the id, or at the last place where
 -- there is none, and what `Pair::settle` makes of that place's pair and of its figures of today is what becomes of the book's.
 -- Assumes nothing.
-use Prim.Native.Nat.{◌-◌}
 use native.Mathlib.Omega.{arith}
 use mathlib.Core.Path.{sym, ◌∙◌}
 use Rattle.book.specs.Calls.{is_open_pair}

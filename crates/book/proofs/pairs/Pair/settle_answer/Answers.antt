@@ -54,25 +54,49 @@ returns-then-not-is_open_with c =
 
 pub returns-then-today-wide : goal.returns-then-today-wide
 returns-then-today-wide c =
-    let today = c.args.today in
+    let a = c.args in
+    let found = passed c.is_open_with.ensures (not_from_true _ c.if-not-is_open_with.false) in
     rw (
-      past_open c.args.today c.args.id c.args.part c.args.self c.if-today-ge-DAYS.false (passed c.is_open_with.ensures (not_from_true _ c.if-not-is_open_with.false)),
+      past_open a.today a.id a.part a.self c.if-today-ge-DAYS.false found,
       sym c.wide.ensures,
-      lt-ltb today c.wide.result c.if-today-wide.true,
+      lt-ltb a.today c.wide.result c.if-today-wide.true,
     )
 
 pub returns-then-any : goal.returns-then-any
-returns-then-any c = rw (past_due c.args.today c.args.id c.args.part c.args.self c.if-today-ge-DAYS.false (passed c.is_open_with.ensures (not_from_true _ c.if-not-is_open_with.false)) (omega (arith, c.wide.ensures, c.if-today-wide.false)), sym c.any.ensures, c.if-any.true)
+returns-then-any c =
+    let a = c.args in
+    let found = passed c.is_open_with.ensures (not_from_true _ c.if-not-is_open_with.false) in
+    let due : a.self.terms.isd ≤ a.today = omega (arith, c.wide.ensures, c.if-today-wide.false) in
+    rw (past_due a.today a.id a.part a.self c.if-today-ge-DAYS.false found due, sym c.any.ensures, c.if-any.true)
 
 pub returns-then-part-eq0 : goal.returns-then-part-eq0
-returns-then-part-eq0 c = rw (past_holds c.args.today c.args.id c.args.part c.args.self c.if-today-ge-DAYS.false (passed c.is_open_with.ensures (not_from_true _ c.if-not-is_open_with.false)) (omega (arith, c.wide.ensures, c.if-today-wide.false)) (sym c.any.ensures ∙ c.if-any.false), c.if-part-eq0.true)
+returns-then-part-eq0 c =
+    let a = c.args in
+    let found = passed c.is_open_with.ensures (not_from_true _ c.if-not-is_open_with.false) in
+    let due : a.self.terms.isd ≤ a.today = omega (arith, c.wide.ensures, c.if-today-wide.false) in
+    let free = sym c.any.ensures ∙ c.if-any.false in
+    rw (past_holds a.today a.id a.part a.self c.if-today-ge-DAYS.false found due free, c.if-part-eq0.true)
 
 pub returns-then-self-part : goal.returns-then-self-part
 returns-then-self-part c =
     let a = c.args in
-    rw (past_holds c.args.today c.args.id c.args.part c.args.self c.if-today-ge-DAYS.false (passed c.is_open_with.ensures (not_from_true _ c.if-not-is_open_with.false)) (omega (arith, c.wide.ensures, c.if-today-wide.false)) (sym c.any.ensures ∙ c.if-any.false), ne_eqb a.part 0 c.if-part-eq0.false, lt-ltb a.self.rest a.part c.if-self-part.true)
+    let found = passed c.is_open_with.ensures (not_from_true _ c.if-not-is_open_with.false) in
+    let due : a.self.terms.isd ≤ a.today = omega (arith, c.wide.ensures, c.if-today-wide.false) in
+    let free = sym c.any.ensures ∙ c.if-any.false in
+    rw (
+      past_holds a.today a.id a.part a.self c.if-today-ge-DAYS.false found due free,
+      ne_eqb a.part 0 c.if-part-eq0.false,
+      lt-ltb a.self.rest a.part c.if-self-part.true,
+    )
 
 pub returns : goal.returns
 returns c =
     let a = c.args in
-    rw (past_holds c.args.today c.args.id c.args.part c.args.self c.if-today-ge-DAYS.false (passed c.is_open_with.ensures (not_from_true _ c.if-not-is_open_with.false)) (omega (arith, c.wide.ensures, c.if-today-wide.false)) (sym c.any.ensures ∙ c.if-any.false), ne_eqb a.part 0 c.if-part-eq0.false, le-ltb a.self.rest a.part c.if-self-part.false)
+    let found = passed c.is_open_with.ensures (not_from_true _ c.if-not-is_open_with.false) in
+    let due : a.self.terms.isd ≤ a.today = omega (arith, c.wide.ensures, c.if-today-wide.false) in
+    let free = sym c.any.ensures ∙ c.if-any.false in
+    rw (
+      past_holds a.today a.id a.part a.self c.if-today-ge-DAYS.false found due free,
+      ne_eqb a.part 0 c.if-part-eq0.false,
+      le-ltb a.self.rest a.part c.if-self-part.false,
+    )
