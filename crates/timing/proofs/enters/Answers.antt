@@ -1,5 +1,5 @@
 -- `enters` meets its contract: no more are accepted than are made. Assumes nothing.
-use Rattle.std.proofs.Common.{◌-◌, arith}
+use Rattle.std.proofs.Common.{arith}
 use Rattle.timing.proofs.enters.Goals as goal
 
 pub loop-n-init : goal.loop-n-init

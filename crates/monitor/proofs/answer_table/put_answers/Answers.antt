@@ -1,8 +1,6 @@
 -- `put_answers` meets its contract: each turn of its loop puts what came of the next line. Assumes nothing.
-use Prim.Native.Nat.{◌-◌}
 use native.Mathlib.Omega.{arith}
 use mathlib.Core.Path.{refl, sym, ap, ◌∙◌}
-use lib.ListN.{length}
 use Rattle.lines.proofs.Theorems.Buffers.{put_none, put_size}
 use Rattle.lines.proofs.Theorems.Texts.{next_place}
 use Rattle.monitor.specs.Replay.{numbered}

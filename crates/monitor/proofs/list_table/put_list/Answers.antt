@@ -1,5 +1,4 @@
 -- `put_list` meets its contract: each turn of its loop puts the line of the next place. Assumes nothing.
-use Prim.Native.Nat.{◌-◌}
 use native.Mathlib.Omega.{arith}
 use Rattle.lines.proofs.Theorems.Buffers.{put_size}
 use Rattle.ranking.specs.Runs.{measure_of}

@@ -2,16 +2,13 @@
 -- to those of the file. The search for a call's place ends there, or at the last place where there is none such; then the
 -- fails of the late days, and those of the places, are counted as an enter and a close count them. The book so made is the
 -- one that the call leaves. Assumes nothing.
-use Prim.Native.Nat.{◌-◌}
 use native.Mathlib.Omega.{arith}
 use mathlib.Core.Path.{refl, sym, ◌∙◌, subst}
-use mathlib.Core.Bool.{false}
 use Rattle.book.specs.declared.at_place.Sought.{Sought}
-use Rattle.book.specs.Applied.{Applied}
 use Rattle.book.specs.AtPlace.{is_sought}
 use Rattle.book.proofs.Functions.Tested.{failed, passed}
 use Rattle.book.proofs.Functions.Ledger.{ledger, same_places}
-use Rattle.book.proofs.Functions.Search.{Ended, searched_start, searched_on, ended}
+use Rattle.book.proofs.Functions.Search.{Ended, searched_start, searched_on}
 use Rattle.book.proofs.Functions.Free.{late_on}
 use Rattle.book.proofs.Functions.Closed.{fails_over, fails_on}
 use Rattle.book.proofs.Functions.InPlace.{late_within, places-within, all_fails, made_in, place_applied}

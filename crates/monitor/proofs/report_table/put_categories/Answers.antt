@@ -1,5 +1,5 @@
 -- `put_categories` meets its contract: each turn of its loop puts the next category's line. Assumes nothing.
-use Prim.Native.Nat.{suc, ◌-◌}
+use Prim.Native.Nat.{suc}
 use native.Mathlib.Omega.{arith}
 use Rattle.book.specs.Limits.{category_count}
 use Rattle.lines.proofs.Theorems.Buffers.{put_none, put_size}

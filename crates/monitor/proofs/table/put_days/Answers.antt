@@ -1,5 +1,4 @@
 -- `put_days` meets its contract: each turn of its loop puts the line of the next day. Assumes nothing.
-use Prim.Native.Nat.{◌-◌}
 use Rattle.book.specs.Limits.{day_limit}
 use Rattle.lines.proofs.Theorems.Buffers.{put_none, put_size}
 use Rattle.monitor.specs.Table.{day_line}

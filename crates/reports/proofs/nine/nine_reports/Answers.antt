@@ -1,7 +1,6 @@
 -- `nine_reports` meets its contract: the loop's list, with the places that are left filled, is the nine. Assumes nothing.
 use borrow.Author.Rules.{rules}
 use native.Mathlib.Omega.{arith}
-use Prim.Native.Nat.{◌-◌}
 use mathlib.Core.Path.{refl, sym, ap, ◌∙◌}
 use Rattle.reports.specs.Nine.{numbered, numbered_by, nine_answer}
 use Rattle.reports.proofs.Functions.Filling.{filled, filled_next, filled_all}

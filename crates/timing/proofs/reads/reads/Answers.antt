@@ -1,5 +1,5 @@
 -- `reads` is safe and ends: so many turns. Assumes nothing.
-use Rattle.std.proofs.Common.{◌-◌, arith, rules}
+use Rattle.std.proofs.Common.{arith, rules}
 use Rattle.timing.proofs.reads.reads.Goals as goal
 
 pub loop-n-init : goal.loop-n-init

@@ -1,5 +1,5 @@
 -- `sum_of_lines` is safe and ends: each turn goes on to the next line. Assumes nothing.
-use Rattle.std.proofs.Common.{◌-◌, arith}
+use Rattle.std.proofs.Common.{arith}
 use Rattle.lines.proofs.Theorems.Texts.{next_place}
 use Rattle.timing.proofs.reads.sum_of_lines.Goals as goal
 
