@@ -16,7 +16,7 @@ use std::env::FillError;
 use std::rt::{Env, Files};
 use streams::write_text;
 
-// As long as a stored text may be.
+// As long as a stored text may be; a longer one is cut off, and differs.
 const STORED_ROOM: usize = 65536;
 
 fn main(rt: HostRuntime) {
