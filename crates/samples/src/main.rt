@@ -16,7 +16,7 @@ use std::env::FillError;
 use std::rt::{Env, Files};
 use streams::write_text;
 
-// As long as a stored text may be; a longer one is cut off, and differs.
+// As long as a stored text may be; of a longer one this many bytes are looked at.
 const STORED_ROOM: usize = 65536;
 
 fn main(rt: HostRuntime) {
@@ -27,7 +27,8 @@ fn main(rt: HostRuntime) {
     }
 }
 
-// The example that an argument names, and whether there is that argument. A name that is too long names no file.
+// The example that an argument names, and whether there is that argument. A name that is too long counts as the
+// empty one.
 fn hold_argument<R: Env + Files + Print + Eprint>(rt: &R, i: usize) -> bool {
     let mut name = [0u8; 64];
     match rt.arg(i, &mut name) {

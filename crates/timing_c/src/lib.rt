@@ -46,7 +46,8 @@ pub extern "C" fn enters(times: u64) -> u64
     timing::enters(times)
 }
 
-// So many times the pair in the last place is cancelled and another entered there: how many enters were accepted.
+// So many times the pair in the last place is cancelled and another entered there: how many enters were accepted. Ids go up
+// to 61,023, so 60,000 times at most.
 #[unsafe(no_mangle)]
 pub extern "C" fn replaces(times: u64) -> u64
     ensures { result ≤ times }
