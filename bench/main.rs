@@ -15,17 +15,24 @@ use texts::{proved, repeated, rust_table, ROOM};
 
 extern "C" {
     fn closes(times: u64) -> u64;
+    fn closes_in_place(times: u64) -> u64;
     fn empty_closes(times: u64) -> u64;
+    fn empty_closes_in_place(times: u64) -> u64;
     fn holds(times: u64) -> u64;
+    fn holds_in_place(times: u64) -> u64;
     fn settles(times: u64) -> u64;
+    fn settles_in_place(times: u64) -> u64;
     fn enters(times: u64) -> u64;
+    fn enters_in_place(times: u64) -> u64;
     fn replaces(times: u64) -> u64;
+    fn replaces_in_place(times: u64) -> u64;
+    fn replaces_first_in_place(times: u64) -> u64;
     fn reads(times: u64) -> u64;
     fn table_of(text: *const u8, length: usize, buffer: *mut [u8; ROOM]) -> usize;
     fn lists_of(text: *const u8, length: usize, buffer: *mut [u8; ROOM]) -> usize;
 }
 
-// The file that crates/timing reads: lines of an enter, 65,536 bytes, the last line cut off.
+// The file that crates/timing_c reads: lines of an enter, 65,536 bytes, the last line cut off.
 #[inline(never)]
 fn rust_reads(times: u64) -> u64 {
     let mut text: Vec<u8> = b"1,12345,1,5,20,1,1234567890,12,34\n".iter().copied().cycle().take(65536).collect();
@@ -70,12 +77,17 @@ fn main() {
     assert_eq!(proved(table_of, &file), rust_table(&file), "both write the same table");
     assert_eq!(proved(lists_of, &file), rust_lists(&file), "both write the same lists");
     println!("{:<38}{:>12}{:>12}{:>8}{:>11}", "", "proved", "Rust", "ratio", "stack");
-    print_line("close of 1,024 failing pairs", 64, 20, |n| unsafe { closes(n) }, calls::closes);
-    print_line("close with no open pair", 64, 20, |n| unsafe { empty_closes(n) }, calls::empty_closes);
-    print_line("hold of the last of 1,024 pairs", 1, 3000, |n| unsafe { holds(n) }, calls::holds);
-    print_line("settle of the last of 1,024 pairs", 1, 3000, |n| unsafe { settles(n) }, calls::settles);
-    print_line("enter refused, 1,024 pairs open", 1, 3000, |n| unsafe { enters(n) }, calls::enters);
-    print_line("cancel and enter in the last place", 1, 3000, |n| unsafe { replaces(n) }, calls::replaces);
+    let both = |name: &str, calls_each, times, by_value: fn(u64) -> u64, in_place: fn(u64) -> u64, rust: fn(u64) -> u64| {
+        print_line(name, calls_each, times, by_value, rust);
+        print_line("  in place", calls_each, times, in_place, rust);
+    };
+    both("close of 1,024 failing pairs", 64, 20, |n| unsafe { closes(n) }, |n| unsafe { closes_in_place(n) }, calls::closes);
+    both("close with no open pair", 64, 20, |n| unsafe { empty_closes(n) }, |n| unsafe { empty_closes_in_place(n) }, calls::empty_closes);
+    both("hold of the last of 1,024 pairs", 1, 3000, |n| unsafe { holds(n) }, |n| unsafe { holds_in_place(n) }, calls::holds);
+    both("settle of the last of 1,024 pairs", 1, 3000, |n| unsafe { settles(n) }, |n| unsafe { settles_in_place(n) }, calls::settles);
+    both("enter refused, 1,024 pairs open", 1, 3000, |n| unsafe { enters(n) }, |n| unsafe { enters_in_place(n) }, calls::enters);
+    both("cancel and enter in the last place", 1, 3000, |n| unsafe { replaces(n) }, |n| unsafe { replaces_in_place(n) }, calls::replaces);
+    print_line("cancel of the first, and enter, in place", 1, 3000, |n| unsafe { replaces_first_in_place(n) }, calls::replaces_first);
     print_line("65,536 bytes of call lines read", 1, 100, |n| unsafe { reads(n) }, rust_reads);
     let lines = file.split_inclusive(|&byte| byte == b'\n').count() - 1;
     for part in 0..=6 {

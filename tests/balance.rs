@@ -1,5 +1,5 @@
-//! Demand 3 on a file: the daily balance of its rows, with closed days, newly due, cancelled and part-settled pairs read off
-//! the calls and their answers alone. Document 01, 'A row'.
+//! The daily balance of a file's rows, with closed days, newly due, cancelled and part-settled pairs read off
+//! the calls and their answers alone. docs/RULES.md, 'The daily balance'.
 
 use crate::reference::calls::{Call, Entry};
 

@@ -78,7 +78,7 @@ fn parting_line(program: &[u8], reference: &[u8]) -> String {
 
 // ---- the balance
 
-/// Demand 3 of the proved programs: the calls of the file, and answers and rows as the programs wrote them.
+/// The daily balance of the proved programs: the calls of the file, and answers and rows as the programs wrote them.
 fn balance_of_programs(file: &[u8], written: &[(Text, Vec<u8>)]) -> Option<String> {
     let mut accepted = Vec::new();
     let mut rows = Vec::new();
@@ -128,7 +128,7 @@ fn row_in(line: &str) -> Option<RowFigures> {
     Some(RowFigures { settled: [settled_n, settled_v], securities: [sec_n, sec_v], cash: [cash_n, cash_v] })
 }
 
-/// Demand 3 of the reference, by its own answers and rows.
+/// The daily balance of the reference, by its own answers and rows.
 pub fn balance_of_reference(replayed: &Replayed) -> Option<String> {
     let made = |line: &Answered| match *line {
         Answered::Made(call, number) => Some((call, number == 0)),

@@ -1,4 +1,4 @@
-//! Compares the proved programs with a reference written from the papers in plain Rust, on the files of `examples/` and on
+//! Compares the proved programs with a reference written from the rules in plain Rust, on the files of `examples/` and on
 //! files made from seeds, and holds both to the daily balance. Then it plants mistakes in the reference, one at a time, and
 //! looks whether the same files find them.
 //!

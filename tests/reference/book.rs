@@ -99,7 +99,7 @@ impl Standing {
     }
 }
 
-/// Document 01, 'The pair'; document 02, card 1.
+/// docs/RULES.md, 'The pair'.
 fn is_in_range(entry: &Entry, planted: Planted) -> bool {
     let largest = planted.right_or(Mistake::AmountOneMore, 10_000_000_000, 10_000_000_001);
     let side_unused = planted.has(Mistake::SideNotAlwaysGiven) && entry.kind >= 3 && entry.side == 0;
@@ -326,7 +326,7 @@ impl Book {
         Row { settled: Figure::default(), securities, cash, isd_value: 2 * isd_value }
     }
 
-    /// The side of a fail at close, the first that applies: document 01, a to f.
+    /// The side of a fail at close, the first that applies: docs/RULES.md, rules a to f.
     fn sides(&self, life: &Life, day: u64) -> Sides {
         use Sides::{Cash, OneEach, Securities};
         let standing = self.standing(life, day);

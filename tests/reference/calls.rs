@@ -1,4 +1,4 @@
-//! The six calls and their values. Document 01, 'The pair' and 'The six calls'; document 02, card 1.
+//! The six calls and their values. docs/RULES.md, 'The pair' and 'The six calls'.
 
 /// What an enter gives.
 #[derive(Clone, Copy)]

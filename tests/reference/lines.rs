@@ -1,5 +1,5 @@
-//! Call lines as text, by the paper's own words: a place is wrong where the bytes up to and including it begin no correct
-//! line. So each beginning of a line is tried, from the shortest on. Document 01, 'The calls as text'; document 02, card 1.
+//! Call lines as text, by the rules' own words: a place is wrong where the bytes up to and including it begin no correct
+//! line. So each beginning of a line is tried, from the shortest on. docs/RULES.md, 'The calls as text'.
 
 use super::calls::{Call, Entry};
 use super::mistakes::{Mistake, Planted};
@@ -8,7 +8,7 @@ use std::ops::Range;
 pub const NAMES: &str = "call,id,kind,category,day,side,amount,deliverer,receiver\n";
 pub const FILE_LIMIT: usize = 65_536;
 
-/// The names line of document 01, before card 1.
+/// The names line of before the participants' codes.
 pub const NAMES_WITHOUT_CODES: &str = "call,id,kind,category,day,side,amount\n";
 
 /// A line read is a call, or the place of its first wrong byte.

@@ -1,4 +1,4 @@
-//! Document 01, with cards 1 and 2 of document 02, once more in plain Rust, written from the papers. It has a method of its
+//! The rules of docs/RULES.md once more in plain Rust, written from the customer's papers. It has a method of its
 //! own: nothing is booked. The accepted calls are kept with their days, and each figure is recounted from the lives of the
 //! pairs when it is asked for.
 

@@ -1,4 +1,4 @@
-//! Reports over runs of days. Document 01, 'A report'.
+//! Reports over runs of days. docs/RULES.md, 'A report'.
 
 use super::book::Row;
 use super::mistakes::{Mistake, Planted};

@@ -1,4 +1,4 @@
-//! What the four programs write. The table and the fault stand in document 01, 'The calls as text'; the columns of reports,
+//! What the four programs write. The table and the fault stand in docs/RULES.md, 'A call file'; the columns of reports,
 //! answers and lists in the README.
 
 use super::book::{rows_of, Book, Row, Share, DAYS};

@@ -1,123 +1,113 @@
--- What comes back from each of the six calls. Document 01, 'Numbers given back'. Assumes nothing.
-use Rattle.std.specs.Prelude.{ℕ, zero, suc, Bool, true, false, not, ◌&&◌, ◌||◌, leb, ltb, eqb}
+-- What comes back from each of the six calls. docs/RULES.md, 'Numbers given back'.
+use Rattle.std.specs.Prelude.{ℕ, Bool, true, false, not, ◌||◌, nat_le, nat_lt, ◌==◌, List, [], ◌∷◌, length, Option, None, Some, Ok, Err}
+use Rattle.std.specs.List.{find}
 use Rattle.book.specs.Limits.{day_limit, open_limit}
-use Rattle.book.specs.Sums.{within}
-use Rattle.book.specs.Pairs.{Pair, is_open, any_hold, in_range}
-pub use Rattle.book.specs.declared.calls.Call.{Call}
-pub use Rattle.book.specs.declared.calls.Refusal.{Refusal}
-pub use Rattle.book.specs.declared.calls.Answer.{Answer}
+use Rattle.book.specs.Rules.{rule, first_of}
+use Rattle.book.specs.Pairs.{Pair, in_range, is_hold, any_hold}
+use Rattle.book.specs.Calls.{Call, Refusal, Answer}
+use Rattle.book.specs.declared.calls.Call.TheVariants.{Enter, Hold, Lack, Settle, Cancel, Close}
+use Rattle.book.specs.declared.calls.Refusal.TheVariants.{Finished, OutOfRange, IdSpent, BookFull, NotOpen, NotDue, OnHold, WrongPart}
+use Rattle.book.specs.declared.book.Book.{Book}
 
--- ---- the paper's numbers
+-- ---- the open pair of an id: the first, in a book that has several
 
--- the number of a refusal: document 01, 'Numbers given back'
-abbrev pub refusal_number : Refusal → ℕ
-refusal_number Refusal.Finished = 1
-refusal_number Refusal.OutOfRange = 2
-refusal_number Refusal.IdSpent = 3
-refusal_number Refusal.BookFull = 4
-refusal_number Refusal.NotOpen = 5
-refusal_number Refusal.NotDue = 6
-refusal_number Refusal.OnHold = 7
-refusal_number Refusal.WrongPart = 8
-refusal_number Refusal.NotClosed = 9
-refusal_number Refusal.FaultyFile = 10
-refusal_number Refusal.ShortBuffer = 11
+-- the pair has that id
+abbrev pub has_id : ℕ → Pair → Bool
+has_id id p = p.id == id
 
--- the number that came back, 0 where none did
-abbrev pub answer_number : Answer → ℕ
-answer_number Answer.Accepted = 0
-answer_number (Answer.Refused r) = refusal_number r
+-- the open pair of that id
+abbrev pub pair_of : ℕ → List Pair → Option Pair
+pair_of id pairs = find (has_id id) pairs
 
--- A call is accepted when no number comes back.
-abbrev pub is_accepted : ℕ → Bool
-is_accepted zero = true
-is_accepted (suc n) = false
+-- there is none
+abbrev pub is_absent : Option Pair → Bool
+is_absent None = true
+is_absent (Some p) = false
 
--- ---- the answers
-
--- All that an answer looks at: today, the highest id accepted before (0 where none was), how many pairs are open, and
--- for each id its open pair, or one that is not open.
-pub record View : Type 0 where
-  pub today : ℕ
-  pub highest : ℕ
-  pub count : ℕ
-  pub pair : ℕ → Pair
-
--- the number where its condition holds, and what comes after it where it doesn't
-abbrev pub refused : Bool → ℕ → ℕ → ℕ
-refused true n later = n
-refused false n later = later
-
--- no number comes back
-abbrev pub accepted : ℕ
-accepted = 0
+-- there is one, and it passes a test
+abbrev pub is_one : (Pair → Bool) → Option Pair → Bool
+is_one test None = false
+is_one test (Some p) = test p
 
 -- ---- when a number applies
 
--- 1: any of the six, today = 64
-abbrev pub is_finished : View → Bool
-is_finished v = leb day_limit v.today
+-- 1: today = 64; a book that no calls leave may be past it
+abbrev pub is_finished : Book → Bool
+is_finished b = nat_le day_limit b.today
 
--- 2 otherwise: hold's side is 1 or 2, and its on/off 0 or 1
-abbrev pub is_hold : ℕ → ℕ → Bool
-is_hold side on = within 1 2 side && leb on 1
+-- 3: an id not above all accepted ids
+abbrev pub is_spent : ℕ → Book → Bool
+is_spent id b = nat_le id b.last_id
 
--- 3: enter, id not above all accepted ids
-abbrev pub is_spent : View → ℕ → Bool
-is_spent v id = leb id v.highest
+-- 4: 1,024 open
+abbrev pub is_full : Book → Bool
+is_full b = nat_le open_limit (length b.pairs.items)
 
--- 4: enter, 1,024 open
-abbrev pub is_full : View → Bool
-is_full v = leb open_limit v.count
+-- 5: the id is not open
+abbrev pub is_not_open : ℕ → Book → Bool
+is_not_open id b = is_absent (pair_of id b.pairs.items)
 
--- 5: hold, lack, settle, cancel: id not open
-abbrev pub not_open : View → ℕ → Bool
-not_open v id = not (is_open (v.pair id))
+-- 6: today before the ISD
+abbrev pub is_undue : ℕ → Pair → Bool
+is_undue today p = nat_lt today p.isd
 
--- 6: settle, today before ISD
-abbrev pub not_due : View → ℕ → Bool
-not_due v id = ltb v.today (v.pair id).terms.isd
+-- 7: any hold on
+abbrev pub is_held : Pair → Bool
+is_held p = any_hold p.holds
 
--- 7: settle, any hold on
-abbrev pub on_hold : View → ℕ → Bool
-on_hold v id = any_hold (v.pair id).holds
+-- 8: part 0 or above the rest
+abbrev pub is_wrong_part : ℕ → Pair → Bool
+is_wrong_part part p = part == 0 || nat_lt p.rest part
 
--- 8: settle, part 0 or above the rest
-abbrev pub wrong_part : View → ℕ → ℕ → Bool
-wrong_part v id part = eqb part 0 || ltb (v.pair id).rest part
+-- of the open pair of an id
+abbrev pub of_open : (Pair → Bool) → ℕ → Book → Bool
+of_open test id b = is_one test (pair_of id b.pairs.items)
 
 -- ---- what comes back
 
--- The lowest number that applies is returned, and none without its condition. Number 2 is a value out of its range in
--- enter, hold's side or on/off, or lack's value.
-unfoldable pub answer : View → Call → ℕ
-answer v (Call.Enter e) =
-    refused (is_finished v) 1
-    (refused (not (in_range e)) 2
-    (refused (is_spent v e.id) 3
-    (refused (is_full v) 4
-    accepted)))
-answer v (Call.Hold id side on) =
-    refused (is_finished v) 1
-    (refused (not (is_hold side on)) 2
-    (refused (not_open v id) 5
-    accepted))
-answer v (Call.Lack id lack) =
-    refused (is_finished v) 1
-    (refused (not (leb lack 2)) 2
-    (refused (not_open v id) 5
-    accepted))
-answer v (Call.Settle id part) =
-    refused (is_finished v) 1
-    (refused (not_open v id) 5
-    (refused (not_due v id) 6
-    (refused (on_hold v id) 7
-    (refused (wrong_part v id part) 8
-    accepted))))
-answer v (Call.Cancel id) =
-    refused (is_finished v) 1
-    (refused (not_open v id) 5
-    accepted)
-answer v Call.Close =
-    refused (is_finished v) 1
-    accepted
+-- a refusal where it applies
+abbrev pub refused_if : Bool → Refusal → Bool × Answer
+refused_if applies refusal = rule applies (Err refusal)
+
+-- the lowest number that applies, for rules in the order of their numbers, and none without its condition
+abbrev pub lowest_of : List (Bool × Answer) → Answer
+lowest_of rules = first_of rules (Ok tt)
+
+-- What comes back from each call.
+abbrev pub answer_to : Call → Book → Answer
+answer_to (Enter e) b = lowest_of (
+    refused_if (is_finished b) Finished
+    ∷ refused_if (not (in_range e)) OutOfRange
+    ∷ refused_if (is_spent e.id b) IdSpent
+    ∷ refused_if (is_full b) BookFull
+    ∷ [])
+answer_to (Hold id side on) b = lowest_of (
+    refused_if (is_finished b) Finished
+    ∷ refused_if (not (is_hold side on)) OutOfRange
+    ∷ refused_if (is_not_open id b) NotOpen
+    ∷ [])
+answer_to (Lack id lack) b = lowest_of (
+    refused_if (is_finished b) Finished
+    ∷ refused_if (nat_lt 2 lack) OutOfRange
+    ∷ refused_if (is_not_open id b) NotOpen
+    ∷ [])
+answer_to (Settle id part) b = lowest_of (
+    refused_if (is_finished b) Finished
+    ∷ refused_if (is_not_open id b) NotOpen
+    ∷ refused_if (of_open (is_undue b.today) id b) NotDue
+    ∷ refused_if (of_open is_held id b) OnHold
+    ∷ refused_if (of_open (is_wrong_part part) id b) WrongPart
+    ∷ [])
+answer_to (Cancel id) b = lowest_of (
+    refused_if (is_finished b) Finished
+    ∷ refused_if (is_not_open id b) NotOpen
+    ∷ [])
+answer_to Close b = lowest_of (refused_if (is_finished b) Finished ∷ [])
+
+-- the last three of them for a pair that is open, as the code asks
+abbrev pub settle_answer : ℕ → ℕ → Pair → Answer
+settle_answer today part p = lowest_of (
+    refused_if (is_undue today p) NotDue
+    ∷ refused_if (is_held p) OnHold
+    ∷ refused_if (is_wrong_part part p) WrongPart
+    ∷ [])

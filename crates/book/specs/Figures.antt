@@ -1,119 +1,21 @@
--- The figures of a day and category, the postings that they are the sum of, and how the cells take a posting.
--- Document 01, 'The six calls' and 'A row'. Assumes nothing.
-use Rattle.std.specs.Prelude.{ℕ, zero, suc, ◌+◌, ◌-◌, ◌*◌, Bool, cond, not, ◌&&◌, List, [], ◌∷◌, leb, eqb, get_or, set}
-use Rattle.book.specs.Limits.{category_count}
-use Rattle.book.specs.Sums.{only, capped}
-use Rattle.book.specs.Placed.{day_place}
-use Rattle.book.specs.Pairs.{Terms, Pair, is_open, has_part_on}
-use Rattle.book.specs.SideOfFail.{Sides, sides_at_close, sides_when_late}
-pub use Rattle.book.specs.declared.cells.Figure.{Figure}
-pub use Rattle.book.specs.declared.cells.Cell.{Cell}
+-- The figures of a day, by category and by participant, and how they take a posting. docs/RULES.md, 'A row'.
+use Rattle.std.specs.Prelude.{ℕ, ◌+◌, ◌*◌, ◌-◌, Bool, ◌==◌, if◌then◌else◌, List, slice_index_or, slice_set}
+pub use Rattle.rates.specs.Stored.{capped}
+use Rattle.book.specs.Limits.{category_count, largest_code}
+pub use Rattle.book.specs.declared.figures.Figure.{Figure}
+pub use Rattle.book.specs.declared.figures.Cell.{Cell}
+pub use Rattle.book.specs.declared.figures.Summary.{Summary}
+use Rattle.book.specs.declared.sides.Sides.{Sides}
+use Rattle.book.specs.declared.sides.Sides.TheVariants.{Securities, Cash, OneEach}
+pub use Rattle.book.specs.declared.figures.Posting.{Posting}
 
 -- ---- figures
 
--- so many SIs, and their value
-abbrev pub figure : ℕ → ℕ → Figure
-figure n v = record { number = n; value = v }
-
--- no SI, and no value
-abbrev pub nothing : Figure
-nothing = figure 0 0
-
--- a cell before anything is counted there
-abbrev pub none : Cell
-none = record { settled = nothing; securities = nothing; cash = nothing; isd_value = 0 }
-
--- a part of so many cents: twice the part as settled value, and 2 SIs settled if it is the pair's first part today
-abbrev pub part_figures : Bool → ℕ → Cell
-part_figures first part = record {
-  settled = figure (only first 2) (2 * part);
-  securities = nothing;
-  cash = nothing;
-  isd_value = 0;
-}
-
--- a fail, each SI worth v: 2 SIs and twice v by their sides, and ISD value where it is counted on its own ISD
-abbrev pub fail_figures : Sides → ℕ → Bool → Cell
-fail_figures Sides.Securities v on_isd = record {
-  settled = nothing;
-  securities = figure 2 (2 * v);
-  cash = nothing;
-  isd_value = only on_isd (2 * v);
-}
-fail_figures Sides.Cash v on_isd = record {
-  settled = nothing;
-  securities = nothing;
-  cash = figure 2 (2 * v);
-  isd_value = only on_isd (2 * v);
-}
-fail_figures Sides.OneEach v on_isd = record {
-  settled = nothing;
-  securities = figure 1 v;
-  cash = figure 1 v;
-  isd_value = only on_isd (2 * v);
-}
-
--- ---- postings
-
--- The accountant's word: a day, the terms of a pair, and what the pair's two SIs add to the figures of that day.
-pub record Posting : Type 0 where
-  pub day : ℕ
-  pub terms : Terms
-  pub figures : Cell
-
--- Enter: a day from ISD to yesterday gains the late pair's two SIs as fails at full value.
-abbrev pub late_posting : ℕ → Terms → Posting
-late_posting day e = record {
-  day = day;
-  terms = e;
-  figures = fail_figures (sides_when_late e.kind e.side) e.amount (eqb day e.isd);
-}
-
--- those of n days from `day` on
-unfoldable pub late_from : ℕ → ℕ → Terms → List Posting
-late_from zero day e = []
-late_from (suc n) day e = late_posting day e ∷ late_from n (suc day) e
-
--- If ISD is before today the pair is late (Guideline 8): its postings, none where it is not.
-abbrev pub late_postings : ℕ → Terms → List Posting
-late_postings today e = late_from (today - e.isd) e.isd e
-
--- Settle: today gains the part.
-abbrev pub part_posting : ℕ → ℕ → Pair → Posting
-part_posting today part p = record { day = today; terms = p.terms; figures = part_figures (not (has_part_on today p)) part }
-
--- Close counts each open pair with ISD ≤ today as failing, 2 SIs and twice the rest.
-abbrev pub failing : ℕ → Pair → Bool
-failing today p = is_open p && leb p.terms.isd today
-
--- what a failing pair posts today, by the side of a fail at close
-unfoldable pub fail_posting : ℕ → Pair → Posting
-fail_posting today p = record {
-  day = today;
-  terms = p.terms;
-  figures = fail_figures (sides_at_close p.terms.kind p.holds p.lack) p.rest (eqb today p.terms.isd);
-}
-
--- the postings of the pairs that fail, in order
-unfoldable pub fail_postings : ℕ → List Pair → List Posting
-fail_postings today [] = []
-fail_postings today (p ∷ ps) = let later = fail_postings today ps in cond (failing today p) (fail_posting today p ∷ later) later
-
--- ---- the cells
-
--- where the cell of a day and category lies: nine to a day, in one flat array
-unfoldable pub place : ℕ → ℕ → ℕ
-place day category = day_place category_count day category
-
--- the cell of a day and category
-abbrev pub cell_at : List Cell → ℕ → ℕ → Cell
-cell_at cells day category = get_or cells (place day category) none
-
 -- the sum of two figures, as it is stored
 abbrev pub add_figure : Figure → Figure → Figure
-add_figure a b = figure (capped (a.number + b.number)) (capped (a.value + b.value))
+add_figure a b = record { number = capped (a.number + b.number); value = capped (a.value + b.value) }
 
--- the sum of two cells, figure by figure
+-- the same of cells, figure by figure
 abbrev pub add_cell : Cell → Cell → Cell
 add_cell a b = record {
   settled = add_figure a.settled b.settled;
@@ -122,13 +24,80 @@ add_cell a b = record {
   isd_value = capped (a.isd_value + b.isd_value);
 }
 
--- The cell of the posting's day and category gains its figures.
-unfoldable pub post : Posting → List Cell → List Cell
-post x cells =
-    set cells (place x.day x.terms.category) (add_cell (cell_at cells x.day x.terms.category) x.figures)
+-- and of summaries
+abbrev pub add_summary : Summary → Summary → Summary
+add_summary a b = record { total = add_figure a.total b.total; fails = add_figure a.fails b.fails }
 
-module _ {S : Type 0} where
-  -- postings taken one by one
-  abbrev pub post_all : (Posting → S → S) → List Posting → S → S
-  post_all take [] s = s
-  post_all take (x ∷ xs) s = post_all take xs (take x s)
+-- nothing is counted: a figure, a cell, a summary
+abbrev pub nothing : Figure
+nothing = record { number = 0; value = 0 }
+
+abbrev pub none : Cell
+none = record { settled = nothing; securities = nothing; cash = nothing; isd_value = 0 }
+
+abbrev pub no_summary : Summary
+no_summary = record { total = nothing; fails = nothing }
+
+-- ---- what a pair adds
+
+-- twice the part as settled value, and 2 SIs settled if it is the pair's first part today
+abbrev pub settled : ℕ → Bool → Cell
+settled part first = record none { settled = record { number = (if first then 2 else 0); value = capped (part * 2) } }
+
+-- two SIs, and one, worth a value each
+abbrev pub two : ℕ → Figure
+two value = record { number = 2; value = capped (value * 2) }
+
+abbrev pub one : ℕ → Figure
+one value = record { number = 1; value = value }
+
+-- what a fail adds to securities, and to cash
+abbrev pub in_securities : Sides → ℕ → Figure
+in_securities Securities value = two value
+in_securities Cash value = nothing
+in_securities OneEach value = one value
+
+abbrev pub in_cash : Sides → ℕ → Figure
+in_cash Securities value = nothing
+in_cash Cash value = two value
+in_cash OneEach value = one value
+
+-- a fail of two SIs worth a value each
+abbrev pub fail : Sides → ℕ → Bool → Cell
+fail sides value on_isd = record {
+  settled = nothing;
+  securities = in_securities sides value;
+  cash = in_cash sides value;
+  isd_value = (if on_isd then capped (value * 2) else 0);
+}
+
+-- what a participant's summary gains where a cell gains these
+abbrev pub summary_of : Cell → Summary
+summary_of c =
+    let fails = add_figure c.securities c.cash in
+    record { total = add_figure c.settled fails; fails = fails }
+
+-- ---- where it is counted
+
+-- number n of a day, counted from 1, where so many lie to a day
+abbrev pub place : ℕ → ℕ → ℕ → ℕ
+place to_a_day day n = day * to_a_day + (n - 1)
+
+-- The cell of the posting's day and category gains its figures.
+abbrev pub post : List Cell → Posting → List Cell
+post cells x =
+    let at = place category_count x.day x.category in
+    slice_set cells at (add_cell (slice_index_or cells at none) x.figures)
+
+-- the summary of a day and participant gains
+abbrev pub gains_at : ℕ → ℕ → Summary → List Summary → List Summary
+gains_at day code gained summaries =
+    let at = place largest_code day code in
+    slice_set summaries at (add_summary (slice_index_or summaries at no_summary) gained)
+
+-- The summaries of both its participants gain them, once where they are one.
+abbrev pub post_summary : List Summary → Posting → List Summary
+post_summary summaries x =
+    let gained = summary_of x.figures in
+    let first = gains_at x.day x.deliverer gained summaries in
+    if x.receiver == x.deliverer then first else gains_at x.day x.receiver gained first

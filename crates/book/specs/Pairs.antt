@@ -1,100 +1,95 @@
--- A pair and what a call changes of it. Document 01, 'The pair' and 'The six calls'; document 02, card 1.
--- Assumes nothing.
-use Rattle.std.specs.Prelude.{ℕ, suc, ◌-◌, Bool, true, false, cond, ◌&&◌, ◌||◌, ltb, eqb}
+-- A pair: two matched settlement instructions (SIs), and what a call changes of it. docs/RULES.md, 'The pair'.
+use Rattle.std.specs.Prelude.{◌≡◌, ℕ, ◌-◌, Bool, false, ◌&&◌, ◌||◌, nat_le, nat_lt, ◌==◌, if◌then◌else◌, List, [], ◌∷◌, None, Some, Result, Ok, Err}
+use Rattle.book.specs.declared.calls.Refusal.{Refusal}
+use Rattle.book.specs.declared.calls.Refusal.TheVariants.{OutOfRange}
 use Rattle.book.specs.Limits.{day_limit, category_count, largest_id, largest_amount, largest_code}
-use Rattle.book.specs.Sums.{within}
 pub use Rattle.book.specs.declared.pairs.Kind.{Kind}
+use Rattle.book.specs.declared.pairs.Kind.TheVariants.{AgainstPayment, WithPayment, FreeOfPayment, PaymentOnly}
 pub use Rattle.book.specs.declared.pairs.Side.{Side}
-pub use Rattle.book.specs.declared.pairs.Holds.{Holds}
+use Rattle.book.specs.declared.pairs.Side.TheVariants as side
 pub use Rattle.book.specs.declared.pairs.Lack.{Lack}
+use Rattle.book.specs.declared.pairs.Lack.TheVariants as lack
+pub use Rattle.book.specs.declared.pairs.Holds.{Holds}
 pub use Rattle.book.specs.declared.pairs.Entry.{Entry}
-pub use Rattle.book.specs.declared.pairs.Terms.{Terms}
 pub use Rattle.book.specs.declared.pairs.Pair.{Pair}
 
--- ---- the paper's numbers
+-- ---- the numbers of kinds, sides and lacks
 
 -- kind: 1 DVP/RVP, 2 DWP/RWP, 3 DFP/RFP, 4 DPFOD/CPFOD
 abbrev pub kind_number : Kind → ℕ
-kind_number Kind.AgainstPayment = 1
-kind_number Kind.WithPayment = 2
-kind_number Kind.FreeOfPayment = 3
-kind_number Kind.PaymentOnly = 4
+kind_number AgainstPayment = 1
+kind_number WithPayment = 2
+kind_number FreeOfPayment = 3
+kind_number PaymentOnly = 4
 
 -- the kind with that number
 abbrev pub kind_of : ℕ → Kind
 kind_of n =
-    cond (eqb n 1) Kind.AgainstPayment
-    (cond (eqb n 2) Kind.WithPayment
-    (cond (eqb n 3) Kind.FreeOfPayment Kind.PaymentOnly))
+    if n == 1 then AgainstPayment
+    else if n == 2 then WithPayment
+    else if n == 3 then FreeOfPayment
+    else PaymentOnly
 
 -- side: who entered last, 1 deliverer, 2 receiver
 abbrev pub side_number : Side → ℕ
-side_number Side.Deliverer = 1
-side_number Side.Receiver = 2
+side_number side.Deliverer = 1
+side_number side.Receiver = 2
 
 -- the side with that number
 abbrev pub side_of : ℕ → Side
-side_of n = cond (eqb n 1) Side.Deliverer Side.Receiver
+side_of n = if n == 1 then side.Deliverer else side.Receiver
 
 -- lack: 0 none, 1 securities, 2 cash
 abbrev pub lack_number : Lack → ℕ
-lack_number Lack.Nothing = 0
-lack_number Lack.Securities = 1
-lack_number Lack.Cash = 2
+lack_number lack.Nothing = 0
+lack_number lack.Securities = 1
+lack_number lack.Cash = 2
 
 -- the lack with that number
 abbrev pub lack_of : ℕ → Lack
-lack_of n = cond (eqb n 0) Lack.Nothing (cond (eqb n 1) Lack.Securities Lack.Cash)
+lack_of n = if n == 0 then lack.Nothing else if n == 1 then lack.Securities else lack.Cash
 
--- ---- holds, one on each side
+-- from the lowest to the highest, both included
+abbrev pub is_within : ℕ → ℕ → ℕ → Bool
+is_within low high n = nat_le low n && nat_le n high
 
--- the deliverer's hold is on
-abbrev pub by_deliverer : Holds → Bool
-by_deliverer Holds.Neither = false
-by_deliverer Holds.Deliverer = true
-by_deliverer Holds.Receiver = false
-by_deliverer Holds.Both = true
+-- a value that stands for a number in its range, and number 2 for any other
+abbrev pub if_in_range : {A : Type 0} → Bool → A → Result A Refusal
+if_in_range fits value = if fits then Ok value else Err OutOfRange
 
--- the receiver's hold is on
-abbrev pub by_receiver : Holds → Bool
-by_receiver Holds.Neither = false
-by_receiver Holds.Deliverer = false
-by_receiver Holds.Receiver = true
-by_receiver Holds.Both = true
+-- a kind, a side or a lack from its number
+abbrev pub GivesKind : ℕ → Result Kind Refusal → Type 0
+GivesKind n r = r ≡ if_in_range (is_within 1 4 n) (kind_of n)
 
--- the holds, given the deliverer's and the receiver's
-abbrev pub holds_of : Bool → Bool → Holds
-holds_of true true = Holds.Both
-holds_of true false = Holds.Deliverer
-holds_of false true = Holds.Receiver
-holds_of false false = Holds.Neither
+abbrev pub GivesSide : ℕ → Result Side Refusal → Type 0
+GivesSide n r = r ≡ if_in_range (is_within 1 2 n) (side_of n)
 
--- a hold is on, on either side
-abbrev pub any_hold : Holds → Bool
-any_hold h = by_deliverer h || by_receiver h
+abbrev pub GivesLack : ℕ → Result Lack Refusal → Type 0
+GivesLack n r = r ≡ if_in_range (nat_le n 2) (lack_of n)
 
--- the hold of one side, 1 deliverer, 2 receiver, put on by 1 and off by 0
-abbrev pub set_hold : ℕ → ℕ → Holds → Holds
-set_hold side on h = cond (eqb side 1) (holds_of (eqb on 1) (by_receiver h)) (holds_of (by_deliverer h) (eqb on 1))
+-- Hold's on/off is 1 or 0.
+abbrev pub switch_of : ℕ → Result Bool Refusal
+switch_of on = if_in_range (nat_le on 1) (on == 1)
 
--- ---- the pair as entered
+-- ---- the pair as it is entered
 
--- each value of an enter in its range; the codes at the two ends may be the same
+-- each value of an enter is in its range; the codes at the two ends may be the same
 abbrev pub in_range : Entry → Bool
 in_range e =
-    within 1 largest_id e.id
-    && within 1 4 e.kind
-    && within 1 category_count e.category
-    && ltb e.isd day_limit
-    && within 1 2 e.side
-    && within 1 largest_amount e.amount
-    && within 1 largest_code e.deliverer
-    && within 1 largest_code e.receiver
+    is_within 1 largest_id e.id
+    && is_within 1 4 e.kind
+    && is_within 1 category_count e.category
+    && nat_lt e.isd day_limit
+    && is_within 1 2 e.side
+    && is_within 1 largest_amount e.amount
+    && is_within 1 largest_code e.deliverer
+    && is_within 1 largest_code e.receiver
 
--- the terms of an accepted enter
-abbrev pub terms : Entry → Terms
-terms e = record {
+-- At the start all of the amount is open, and there is no hold and no lack.
+abbrev pub entered : Entry → Pair
+entered e = record {
   amount = e.amount;
+  rest = e.amount;
   id = e.id;
   kind = kind_of e.kind;
   category = e.category;
@@ -102,53 +97,42 @@ terms e = record {
   side = side_of e.side;
   deliverer = e.deliverer;
   receiver = e.receiver;
+  holds = record { deliverer = false; receiver = false };
+  lack = lack.Nothing;
+  last_part = None;
 }
 
--- At the start there is no hold and no lack.
-abbrev pub entered : Terms → Pair
-entered e = record { terms = e; rest = e.amount; holds = Holds.Neither; lack = Lack.Nothing; last_part = 0 }
+-- ---- what a call changes of it
 
--- a place that never held a pair
-abbrev pub blank : Pair
-blank = entered (record {
-  amount = 0;
-  id = 0;
-  kind = Kind.AgainstPayment;
-  category = 0;
-  isd = 0;
-  side = Side.Deliverer;
-  deliverer = 0;
-  receiver = 0;
-})
+-- Hold: the side is 1 or 2, and on/off is 1 or 0.
+abbrev pub is_hold : ℕ → ℕ → Bool
+is_hold side on = is_within 1 2 side && nat_le on 1
 
--- A pair is open until its rest is 0 or it is cancelled.
-abbrev pub is_open : Pair → Bool
-is_open p = ltb 0 p.rest
+-- the hold of a side goes on or off
+abbrev pub set_hold : Side → Bool → Holds → Holds
+set_hold side.Deliverer on h = record { deliverer = on; receiver = h.receiver }
+set_hold side.Receiver on h = record { deliverer = h.deliverer; receiver = on }
 
--- a part of the pair settled on that day
-abbrev pub has_part_on : ℕ → Pair → Bool
-has_part_on day p = eqb p.last_part (suc day)
+-- a pair with that hold of a side
+abbrev pub with_hold : Side → Bool → Pair → Pair
+with_hold s on p = record p { holds = set_hold s on p.holds }
 
--- ---- what a call changes of a pair
+-- a hold is on, on either side
+abbrev pub any_hold : Holds → Bool
+any_hold h = h.deliverer || h.receiver
 
--- Hold: the hold of a side goes on or off
-abbrev pub with_hold : ℕ → ℕ → Pair → Pair
-with_hold side on p = record {
-  terms = p.terms;
-  rest = p.rest;
-  holds = set_hold side on p.holds;
-  lack = p.lack;
-  last_part = p.last_part;
-}
+-- a hold is on, on both sides
+abbrev pub both_hold : Holds → Bool
+both_hold h = h.deliverer && h.receiver
 
 -- Lack: 0, 1 or 2
-abbrev pub with_lack : ℕ → Pair → Pair
-with_lack lack p = record { terms = p.terms; rest = p.rest; holds = p.holds; lack = lack_of lack; last_part = p.last_part }
+abbrev pub with_lack : Lack → Pair → Pair
+with_lack l p = record p { lack = l }
 
 -- Settle takes a part of the rest.
 abbrev pub with_part : ℕ → ℕ → Pair → Pair
-with_part today part p = record { terms = p.terms; rest = p.rest - part; holds = p.holds; lack = p.lack; last_part = suc today }
+with_part today part p = record p { rest = p.rest - part; last_part = Some today }
 
--- Cancel ends the pair.
-abbrev pub ended : Pair → Pair
-ended p = record { terms = p.terms; rest = 0; holds = p.holds; lack = p.lack; last_part = p.last_part }
+-- A pair is open while it has a rest.
+abbrev pub while_open : Pair → List Pair
+while_open p = if p.rest == 0 then [] else p ∷ []

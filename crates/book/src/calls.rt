@@ -1,48 +1,58 @@
-// The six calls with their values, and what comes back. Document 01, 'The six calls' and 'Numbers given back'.
+//! The six calls, and why anything that is asked of the book is refused.
 ghost use Rattle.std.specs.Prelude.{◌≡◌};
-ghost use Rattle.book.specs.Answers.{refusal_number, answer_number, is_accepted};
+ghost use Rattle.book.specs.Calls.{refusal_number, answer_number};
 
 use crate::pairs::Entry;
 
-#[derive(Clone, Copy)]
+/// A call with its values, which may be any numbers. The customer asked for an enum case with its numbers for each.
+#[derive(Clone, Copy, Debug, PartialEq, Eq)]
 pub enum Call {
+    /// A pair is entered; its matching happens today.
     Enter(Entry),
-    // id, side, on or off
-    Hold(u64, u64, u64),
-    // id, lack
-    Lack(u64, u64),
-    // id, part
-    Settle(u64, u64),
-    // id
-    Cancel(u64),
+    /// The hold of a side, 1 deliverer or 2 receiver, goes on (1) or off (0).
+    Hold { id: u64, side: u64, on: u64 },
+    /// What the pair lacks: 0 nothing, 1 securities, 2 cash.
+    Lack { id: u64, lack: u64 },
+    /// A part of the rest settles: euro cents of one SI.
+    Settle { id: u64, part: u64 },
+    /// The pair ends.
+    Cancel { id: u64 },
+    /// The day ends: what is due and open fails.
     Close,
 }
 
-// Why a call, a row, a report, a list, a file or a row as text is refused, in the order of document 01's numbers 1 to 11.
-#[derive(Clone, Copy)]
+/// Why a call, a row, a report, a file or a text is refused.
+#[derive(Clone, Copy, Debug, PartialEq, Eq)]
 pub enum Refusal {
+    /// All 64 days are closed.
     Finished,
+    /// A value is out of its range.
     OutOfRange,
+    /// The id isn't above all accepted ones.
     IdSpent,
+    /// 1,024 pairs are open.
     BookFull,
+    /// No pair of that id is open.
     NotOpen,
+    /// Today is before the pair's intended settlement date.
     NotDue,
+    /// A side is on hold.
     OnHold,
+    /// The part is 0, or more than the rest.
     WrongPart,
+    /// Of a row or a run of days: its last day isn't closed, or its first is after its last.
     NotClosed,
+    /// Of a call file: its names line is wrong, or it is over 65,536 bytes.
     FaultyFile,
+    /// Of a row as text: the buffer is under 128 bytes.
     ShortBuffer,
 }
 
-// What comes back from one of the six calls, and beside each of nine reports, a list and a file replayed.
-#[derive(Clone, Copy)]
-pub enum Answer {
-    Accepted,
-    Refused(Refusal),
-}
+/// What comes back from a call.
+pub type Answer = Result<(), Refusal>;
 
 impl Refusal {
-    // Its number in document 01.
+    /// Its number: docs/RULES.md, 'Numbers given back'. The customer asked for a definition by cases.
     pub fn number(self) -> u64
         ensures { result ≡ refusal_number self }
     {
@@ -62,24 +72,12 @@ impl Refusal {
     }
 }
 
-impl Answer {
-    // No number comes back.
-    pub fn is_accepted(self) -> bool
-        ensures { result ≡ is_accepted (answer_number self) }
-    {
-        match self {
-            Answer::Accepted => true,
-            Answer::Refused(_) => false,
-        }
-    }
-
-    // The number that comes back, 0 where none does.
-    pub fn number(self) -> u64
-        ensures { result ≡ answer_number self }
-    {
-        match self {
-            Answer::Accepted => 0,
-            Answer::Refused(refusal) => refusal.number(),
-        }
+/// The number that came back from a call, 0 where none did.
+pub fn number_of(answer: Answer) -> u64
+    ensures { result ≡ answer_number answer }
+{
+    match answer {
+        Ok(()) => 0,
+        Err(refusal) => refusal.number(),
     }
 }

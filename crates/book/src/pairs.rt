@@ -1,295 +1,294 @@
-// A pair of matched settlement instructions (SIs). Document 01, 'The pair'; document 02, card 1.
-ghost use Rattle.std.specs.Prelude.{◌≡◌};
-ghost use Rattle.book.specs.Pairs.{holds_of, by_deliverer, by_receiver, any_hold, set_hold, lack_of, kind_of, side_of};
-ghost use Rattle.book.specs.Pairs.{entered, blank, is_open, has_part_on, with_hold, with_lack, ended};
-ghost use Rattle.book.specs.Figures.{failing};
-ghost use Rattle.book.specs.Calls.{is_open_pair};
+//! A matched pair of settlement instructions: docs/RULES.md, 'The pair'.
+ghost use Rattle.std.specs.Prelude.{◌≡◌, ◌<◌, ◌≤◌, true};
+ghost use Rattle.book.specs.Limits.{day_limit};
+ghost use Rattle.book.specs.Pairs.{is_within, in_range, if_in_range, switch_of, entered, with_hold, with_lack, with_part};
+ghost use Rattle.book.specs.Answers.{settle_answer};
+ghost use Rattle.book.specs.Postings.{posting, is_failing, fail_today, part_posting, late_fail};
 
-use crate::numbers::{wide, wide_id};
+use crate::calls::{Answer, Refusal};
+use crate::figures::{Cell, Posting};
+use crate::limits::{CATEGORIES, DAYS, LARGEST_AMOUNT, LARGEST_CODE, LARGEST_ID};
+use crate::sides::Sides;
 
-// 1 DVP/RVP, 2 DWP/RWP, 3 DFP/RFP, 4 DPFOD/CPFOD.
-#[derive(Clone, Copy)]
+/// What the pair exchanges: 1 DVP/RVP, 2 DWP/RWP, 3 DFP/RFP, 4 DPFOD/CPFOD.
+#[derive(Clone, Copy, Debug, Default, PartialEq, Eq)]
 pub enum Kind {
+    /// The default of an unused place, as in the other enums.
+    #[default]
     AgainstPayment,
     WithPayment,
     FreeOfPayment,
     PaymentOnly,
 }
 
-// Who entered last, 1 the deliverer, 2 the receiver.
-#[derive(Clone, Copy)]
+/// An end of the pair; of an enter, who entered last: 1 the deliverer, 2 the receiver.
+#[derive(Clone, Copy, Debug, Default, PartialEq, Eq)]
 pub enum Side {
+    #[default]
     Deliverer,
     Receiver,
 }
 
-// Which of the two sides has put the pair on hold.
-#[derive(Clone, Copy)]
-pub enum Holds {
-    Neither,
-    Deliverer,
-    Receiver,
-    Both,
-}
-
-// What the pair lacks, 0 nothing, 1 securities, 2 cash. The lack is a term of document 01.
-#[derive(Clone, Copy)]
+/// What a pair lacks: 0 nothing, 1 securities, 2 cash. The customer asked for an enum case for each.
+#[derive(Clone, Copy, Debug, Default, PartialEq, Eq)]
 pub enum Lack {
+    #[default]
     Nothing,
     Securities,
     Cash,
 }
 
-// A pair as an enter gives it: any numbers, which the enter's refusal looks at. Deliverer and receiver are the codes of the
-// participants at its two ends, which may be one and the same.
-#[derive(Clone, Copy)]
+/// The hold of each side.
+#[derive(Clone, Copy, Debug, Default, PartialEq, Eq)]
+pub struct Holds {
+    pub deliverer: bool,
+    pub receiver: bool,
+}
+
+/// A pair as an enter gives it: any numbers.
+#[derive(Clone, Copy, Debug, PartialEq, Eq)]
 pub struct Entry {
     pub id: u64,
     pub kind: u64,
     pub category: u64,
+    /// The intended settlement date, a day.
     pub isd: u64,
     pub side: u64,
+    /// The value of one SI, in euro cents.
     pub amount: u64,
     pub deliverer: u64,
     pub receiver: u64,
 }
 
-// The same once accepted, in the widths that the ranges allow. ISD is the intended settlement date.
-#[derive(Clone, Copy)]
-pub struct Terms {
+/// A pair of a book.
+#[derive(Clone, Copy, Debug, Default, PartialEq, Eq)]
+pub struct Pair {
+    /// The value of one SI, in euro cents.
     pub amount: u64,
+    /// The amount less the parts settled.
+    pub rest: u64,
     pub id: u16,
     pub kind: Kind,
     pub category: u8,
+    /// The intended settlement date, a day.
     pub isd: u8,
     pub side: Side,
     pub deliverer: u8,
     pub receiver: u8,
-}
-
-// An accepted pair. Its rest, a term of document 01, is the amount less the parts settled; it is open while that is
-// above 0. `last_part` is the day after the one on which its last part settled, 0 where none has: a new day then needs
-// no write to the pair.
-#[derive(Clone, Copy)]
-pub struct Pair {
-    pub terms: Terms,
-    pub rest: u64,
     pub holds: Holds,
     pub lack: Lack,
-    pub last_part: u8,
+    /// The day on which its last part settled.
+    pub last_part: Option<u8>,
 }
 
-impl Kind {
-    // The kind with that number.
-    pub(crate) fn of(number: u64) -> Kind
-        ensures { result ≡ kind_of number }
-    {
+impl TryFrom<u64> for Kind {
+    ghost use Rattle.book.specs.Pairs.{GivesKind};
+
+    type Error = Refusal;
+
+    ghost try_from_gives = { GivesKind };
+
+    fn try_from(number: u64) -> Result<Kind, Refusal> {
         match number {
-            1 => Kind::AgainstPayment,
-            2 => Kind::WithPayment,
-            3 => Kind::FreeOfPayment,
-            _ => Kind::PaymentOnly,
+            1 => Ok(Kind::AgainstPayment),
+            2 => Ok(Kind::WithPayment),
+            3 => Ok(Kind::FreeOfPayment),
+            4 => Ok(Kind::PaymentOnly),
+            _ => Err(Refusal::OutOfRange),
         }
     }
 }
 
-impl Side {
-    // The side with that number.
-    pub(crate) fn of(number: u64) -> Side
-        ensures { result ≡ side_of number }
-    {
+impl TryFrom<u64> for Side {
+    ghost use Rattle.book.specs.Pairs.{GivesSide};
+
+    type Error = Refusal;
+
+    ghost try_from_gives = { GivesSide };
+
+    fn try_from(number: u64) -> Result<Side, Refusal> {
         match number {
-            1 => Side::Deliverer,
-            _ => Side::Receiver,
+            1 => Ok(Side::Deliverer),
+            2 => Ok(Side::Receiver),
+            _ => Err(Refusal::OutOfRange),
         }
     }
 }
 
-impl Lack {
-    // The lack with that number.
-    fn of(number: u64) -> Lack
-        ensures { result ≡ lack_of number }
-    {
+impl TryFrom<u64> for Lack {
+    ghost use Rattle.book.specs.Pairs.{GivesLack};
+
+    type Error = Refusal;
+
+    ghost try_from_gives = { GivesLack };
+
+    fn try_from(number: u64) -> Result<Lack, Refusal> {
         match number {
-            0 => Lack::Nothing,
-            1 => Lack::Securities,
-            _ => Lack::Cash,
+            0 => Ok(Lack::Nothing),
+            1 => Ok(Lack::Securities),
+            2 => Ok(Lack::Cash),
+            _ => Err(Refusal::OutOfRange),
         }
     }
 }
 
-impl Holds {
-    // The holds, given the deliverer's and the receiver's.
-    fn of(deliverer: bool, receiver: bool) -> Holds
-        ensures { result ≡ holds_of deliverer receiver }
-    {
-        if deliverer {
-            if receiver {
-                Holds::Both
-            } else {
-                Holds::Deliverer
-            }
-        } else {
-            if receiver {
-                Holds::Receiver
-            } else {
-                Holds::Neither
-            }
-        }
-    }
+/// From the lowest to the highest, both included.
+pub fn is_within(low: u64, high: u64, n: u64) -> bool
+    ensures { result ≡ is_within low high n }
+{
+    low <= n && n <= high
+}
 
-    // The deliverer's hold is on.
-    fn by_deliverer(self) -> bool
-        ensures { result ≡ by_deliverer self }
+impl Entry {
+    /// Whether each value is in its range.
+    pub fn is_in_range(&self) -> bool
+        ensures { result ≡ in_range self.now }
     {
-        match self {
-            Holds::Neither => false,
-            Holds::Deliverer => true,
-            Holds::Receiver => false,
-            Holds::Both => true,
-        }
+        is_within(1, LARGEST_ID, self.id)
+            && is_within(1, 4, self.kind)
+            && is_within(1, CATEGORIES, self.category)
+            && self.isd < DAYS
+            && is_within(1, 2, self.side)
+            && is_within(1, LARGEST_AMOUNT, self.amount)
+            && is_within(1, LARGEST_CODE, self.deliverer)
+            && is_within(1, LARGEST_CODE, self.receiver)
     }
+}
 
-    // The receiver's hold is on.
-    fn by_receiver(self) -> bool
-        ensures { result ≡ by_receiver self }
-    {
-        match self {
-            Holds::Neither => false,
-            Holds::Deliverer => false,
-            Holds::Receiver => true,
-            Holds::Both => true,
-        }
+/// A hold's on/off: 1 on, 0 off.
+pub(crate) fn switch_of(on: u64) -> Result<bool, Refusal>
+    ensures { result ≡ switch_of on }
+{
+    match on {
+        0 => Ok(false),
+        1 => Ok(true),
+        _ => Err(Refusal::OutOfRange),
     }
+}
 
-    // A hold is on, on either side.
-    pub(crate) fn any(self) -> bool
-        ensures { result ≡ any_hold self }
+impl Entry {
+    /// The pair as it is entered, or number 2.
+    pub(crate) fn pair(&self) -> Result<Pair, Refusal>
+        ensures { result ≡ if_in_range (in_range self.now) (entered self.now) }
     {
-        match self {
-            Holds::Neither => false,
-            Holds::Deliverer => true,
-            Holds::Receiver => true,
-            Holds::Both => true,
+        if !self.is_in_range() {
+            return Err(Refusal::OutOfRange);
         }
-    }
-
-    // The hold of one side, 1 deliverer, 2 receiver, put on by 1 and off by 0.
-    fn set(self, side: u64, on: u64) -> Holds
-        ensures { result ≡ set_hold side on self }
-    {
-        if side == 1 {
-            Holds::of(on == 1, self.by_receiver())
-        } else {
-            Holds::of(self.by_deliverer(), on == 1)
-        }
+        Ok(Pair {
+            amount: self.amount,
+            rest: self.amount,
+            id: self.id as u16,
+            kind: Kind::try_from(self.kind)?,
+            category: self.category as u8,
+            isd: self.isd as u8,
+            side: Side::try_from(self.side)?,
+            deliverer: self.deliverer as u8,
+            receiver: self.receiver as u8,
+            holds: Holds::default(),
+            lack: Lack::default(),
+            last_part: None,
+        })
     }
 }
 
 impl Pair {
-    // A pair at its start: no hold and no lack.
-    pub(crate) fn entered(terms: Terms) -> Pair
-        ensures { result ≡ entered terms }
+    /// Whether it is due.
+    pub(crate) fn is_failing(&self, today: u64) -> bool
+        ensures { result ≡ is_failing today self.now }
     {
-        Pair {
-            terms: terms,
-            rest: terms.amount,
-            holds: Holds::Neither,
-            lack: Lack::Nothing,
-            last_part: 0,
+        u64::from(self.isd) <= today
+    }
+
+    /// What comes back from a settle of it.
+    pub(crate) fn settle_answer(&self, today: u64, part: u64) -> Answer
+        ensures { result ≡ settle_answer today part self.now }
+    {
+        if today < u64::from(self.isd) {
+            return Err(Refusal::NotDue);
         }
-    }
-
-    // What a place holds before any pair.
-    pub(crate) fn blank() -> Pair
-        ensures { result ≡ blank }
-    {
-        Pair::entered(Terms {
-            amount: 0,
-            id: 0,
-            kind: Kind::AgainstPayment,
-            category: 0,
-            isd: 0,
-            side: Side::Deliverer,
-            deliverer: 0,
-            receiver: 0,
-        })
-    }
-
-    // Open until its rest is 0.
-    pub(crate) fn is_open(self) -> bool
-        ensures { result ≡ is_open self }
-    {
-        0 < self.rest
-    }
-
-    // The open pair of that id.
-    pub(crate) fn is_open_with(self, id: u64) -> bool
-        ensures { result ≡ is_open_pair id self }
-    {
-        if !self.is_open() {
-            return false;
+        if self.holds.deliverer || self.holds.receiver {
+            return Err(Refusal::OnHold);
         }
-        wide_id(self.terms.id) == id
-    }
-
-    // Open, and due by today.
-    pub fn is_failing(self, today: u64) -> bool
-        ensures { result ≡ failing today self }
-    {
-        if !self.is_open() {
-            return false;
+        if part == 0 || part > self.rest {
+            return Err(Refusal::WrongPart);
         }
-        wide(self.terms.isd) <= today
+        Ok(())
     }
 
-    // A part of it settled on that day. No sum on the way passes 64 bits.
-    pub(crate) fn has_part_on(self, day: u64) -> bool
-        ensures { result ≡ has_part_on day self }
-    {
-        let last = wide(self.last_part);
-        if last == 0 {
-            return false;
-        }
-        last - 1 == day
-    }
-
-    // The hold of a side goes on or off.
-    pub(crate) fn with_hold(self, side: u64, on: u64) -> Pair
+    /// The pair with the hold of a side on or off.
+    pub(crate) fn with_hold(mut self, side: Side, on: bool) -> Pair
         ensures { result ≡ with_hold side on self }
     {
-        let terms = self.terms;
-        let holds = self.holds;
-        let lack = self.lack;
-        Pair {
-            terms: terms,
-            rest: self.rest,
-            holds: holds.set(side, on),
-            lack: lack,
-            last_part: self.last_part,
+        match side {
+            Side::Deliverer => self.holds.deliverer = on,
+            Side::Receiver => self.holds.receiver = on,
         }
-    }
-
-    // Another lack: 0, 1 or 2.
-    pub(crate) fn with_lack(self, number: u64) -> Pair
-        ensures { result ≡ with_lack number self }
-    {
-        let terms = self.terms;
-        let holds = self.holds;
-        Pair {
-            terms: terms,
-            rest: self.rest,
-            holds: holds,
-            lack: Lack::of(number),
-            last_part: self.last_part,
-        }
-    }
-
-    // Ended, whatever the rest was.
-    pub(crate) fn ended(mut self) -> Pair
-        ensures { result ≡ ended self }
-    {
-        self.rest = 0;
         self
+    }
+
+    /// The pair with that lack.
+    pub(crate) fn with_lack(self, lack: Lack) -> Pair
+        ensures { result ≡ with_lack lack self }
+    {
+        Pair { lack, ..self }
+    }
+
+    /// The pair with a part settled today.
+    pub(crate) fn with_part(self, today: u64, part: u64) -> Pair
+        requires open { today < day_limit }
+        requires part { part ≤ self.rest }
+        ensures { result ≡ with_part today part self }
+    {
+        Pair {
+            rest: self.rest - part,
+            last_part: Some(today as u8),
+            ..self
+        }
+    }
+
+    /// What it adds to the figures of a day.
+    fn posting(&self, day: u64, figures: Cell) -> Posting
+        requires { day < day_limit }
+        ensures { result ≡ posting day self.now figures }
+    {
+        Posting {
+            day: day as u8,
+            category: self.category,
+            deliverer: self.deliverer,
+            receiver: self.receiver,
+            figures,
+        }
+    }
+
+    /// What a part of it adds that settles today.
+    pub(crate) fn part(&self, today: u64, part: u64) -> Posting
+        requires { today < day_limit }
+        ensures { result ≡ part_posting today part self.now }
+    {
+        let first = match self.last_part {
+            Some(day) => u64::from(day) != today,
+            None => true,
+        };
+        self.posting(today, Cell::settled(part, first))
+    }
+
+    /// Its fail at the close of today.
+    pub(crate) fn fail(&self, today: u64) -> Posting
+        requires { today < day_limit }
+        ensures { result ≡ fail_today today self.now }
+    {
+        let sides = Sides::at_close(self.kind, self.holds, self.lack);
+        let on_isd = today == u64::from(self.isd);
+        self.posting(today, Cell::fail(sides, self.rest, on_isd))
+    }
+
+    /// Its fail on a day before its matching: other sides, and the whole amount.
+    pub(crate) fn late_fail(&self, day: u64) -> Posting
+        requires { day < day_limit }
+        ensures { result ≡ late_fail self.now day }
+    {
+        let sides = Sides::when_late(self.kind, self.side);
+        let on_isd = day == u64::from(self.isd);
+        self.posting(day, Cell::fail(sides, self.amount, on_isd))
     }
 }

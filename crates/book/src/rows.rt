@@ -1,74 +1,83 @@
-// A row: the figures of a closed day and a category. Document 01, 'A row'.
-ghost use Rattle.std.specs.Prelude.{◌≡◌};
-ghost use Rattle.book.specs.Rows.{row_from, given_by, row_answer};
+//! A row: the figures of a closed day and a category. docs/RULES.md, 'A row'.
+ghost use Rattle.std.specs.Prelude.{◌≡◌, ◌<◌, ◌≤◌};
+ghost use Rattle.std.specs.List.{fold};
+ghost use Rattle.book.specs.Limits.{day_limit, category_count};
+ghost use Rattle.book.specs.Figures.{add_cell, none};
+ghost use Rattle.book.specs.Rows.{row_of, figures_of, is_closed, row_answer};
 
 use crate::book::Book;
 use crate::calls::Refusal;
-use crate::cells::{Cell, Figure, place};
-use crate::limits::{CATEGORIES, DAYS};
+use crate::figures::{Cell, Figure, place};
+use crate::limits::{CATEGORIES, CELLS, DAYS};
 
-#[derive(Clone, Copy)]
+/// The figures of a day and a category, or sums of them. `total` is settled and fails together.
+#[derive(Clone, Copy, Debug, Default, PartialEq, Eq)]
 pub struct Row {
     pub total: Figure,
     pub settled: Figure,
     pub securities: Figure,
     pub cash: Figure,
+    /// The value of the fails that are counted on their own ISD, in euro cents.
     pub isd_value: u64,
 }
 
-// What comes back where a row is asked for: its figures, or a refusal and none.
-#[derive(Clone, Copy)]
-pub enum RowAnswer {
-    Figures(Row),
-    Refused(Refusal),
-}
-
-impl Cell {
-    // Total is the sum of settled, securities fails and cash fails.
-    pub fn row(self) -> Row
-        ensures { result ≡ row_from self }
+impl Row {
+    /// The row of a cell.
+    pub fn of(cell: Cell) -> Row
+        ensures { result ≡ row_of cell }
     {
-        let settled = self.settled;
-        let securities = self.securities;
-        let cash = self.cash;
+        let fails = cell.securities.saturating_add(cell.cash);
         Row {
-            total: settled.add(securities.add(cash)),
-            settled: settled,
-            securities: securities,
-            cash: cash,
-            isd_value: self.isd_value,
+            total: cell.settled.saturating_add(fails),
+            settled: cell.settled,
+            securities: cell.securities,
+            cash: cell.cash,
+            isd_value: cell.isd_value,
         }
     }
 }
 
+/// Cells added up.
+fn sum(cells: &[Cell]) -> Cell
+    ensures { result ≡ fold add_cell none cells.now }
+{
+    cells
+        .iter()
+        .fold(Cell::NONE, |sum, cell| sum.saturating_add(*cell))
+}
+
+/// The figures of a day, of all nine categories where the category is 0.
+fn figures_of(cells: &[Cell; CELLS], day: u8, category: u8) -> Cell
+    requires day { day < day_limit }
+    requires category { category ≤ category_count }
+    ensures { result ≡ figures_of cells.now day category }
+{
+    if category == 0 {
+        let first = place(CATEGORIES, day, 1);
+        sum(&cells[first..first + CATEGORIES as usize])
+    } else {
+        cells[place(CATEGORIES, day, category)]
+    }
+}
+
 impl Book {
-    // The row of a day and a category, 0 for all nine together.
-    pub fn row(self, day: u64, category: u64) -> RowAnswer
-        ensures { given_by result ≡ row_answer self day category }
+    /// Whether a day is closed.
+    pub fn is_closed(&self, day: u64) -> bool
+        ensures { result ≡ is_closed day self.now }
     {
-        if CATEGORIES < category {
-            return RowAnswer::Refused(Refusal::OutOfRange);
+        day < self.today && day < DAYS
+    }
+
+    /// The row of a closed day and a category, 0 for all nine together. Number 2: a category over 9; 9: a day that isn't closed.
+    pub fn row(&self, day: u64, category: u64) -> Result<Row, Refusal>
+        ensures { result ≡ row_answer day category self.now }
+    {
+        if category > CATEGORIES {
+            return Err(Refusal::OutOfRange);
         }
-        if self.today <= day {
-            return RowAnswer::Refused(Refusal::NotClosed);
+        if !self.is_closed(day) {
+            return Err(Refusal::NotClosed);
         }
-        if DAYS <= day {
-            return RowAnswer::Refused(Refusal::NotClosed);
-        }
-        if category != 0 {
-            let at = place(day, category);
-            let cell = self.cells[at];
-            return RowAnswer::Figures(cell.row());
-        }
-        let mut sum = Cell::none();
-        let mut left = CATEGORIES;
-        while 0 < left {
-            let at = place(day, left);
-            let cell = self.cells[at];
-            let next = cell.add(sum);
-            sum = next;
-            left -= 1;
-        }
-        RowAnswer::Figures(sum.row())
+        Ok(Row::of(figures_of(&self.cells, day as u8, category as u8)))
     }
 }

@@ -1,65 +1,43 @@
-// To which side the two SIs of a failing pair go. Document 01, 'The side of a fail at close' and call 1. Only src/fails.rt asks.
+//! To which side the two SIs of a failing pair go: docs/RULES.md, 'The side of a fail'.
 ghost use Rattle.std.specs.Prelude.{◌≡◌};
-ghost use Rattle.book.specs.SideOfFail.{sides_at_close, sides_when_late};
+ghost use Rattle.book.specs.Sides.{sides_at_close, sides_when_late};
 
 use crate::pairs::{Holds, Kind, Lack, Side};
 
-// Both SIs to securities, both to cash, or one SI and one rest to each side.
-#[derive(Clone, Copy)]
+/// The side of a fail: both SIs to securities, both to cash, or one to each.
+#[derive(Clone, Copy, Debug, PartialEq, Eq)]
 pub enum Sides {
     Securities,
     Cash,
     OneEach,
 }
 
-// The side of a fail at close, the first of the rules a to f that applies.
-pub(crate) fn at_close(kind: Kind, holds: Holds, lack: Lack) -> Sides
-    ensures { result ≡ sides_at_close kind holds lack }
-{
-    match kind {
-        Kind::FreeOfPayment => Sides::Securities,
-        Kind::PaymentOnly => Sides::Cash,
-        Kind::AgainstPayment => match holds {
-            Holds::Both => Sides::OneEach,
-            Holds::Deliverer => Sides::Securities,
-            Holds::Receiver => Sides::Cash,
-            Holds::Neither => match lack {
-                Lack::Nothing => Sides::Securities,
-                Lack::Securities => Sides::Securities,
-                Lack::Cash => Sides::Cash,
-            },
-        },
-        Kind::WithPayment => match holds {
-            Holds::Both => Sides::OneEach,
-            Holds::Deliverer => Sides::OneEach,
-            Holds::Receiver => Sides::OneEach,
-            Holds::Neither => match lack {
-                Lack::Nothing => Sides::Securities,
-                Lack::Securities => Sides::Securities,
-                Lack::Cash => Sides::Cash,
-            },
-        },
+impl Sides {
+    /// At the close: rules a to f, the first that applies. The customer asked for a match over kind, holds and lack.
+    pub fn at_close(kind: Kind, holds: Holds, lack: Lack) -> Sides
+        ensures { result ≡ sides_at_close kind holds lack }
+    {
+        match (kind, holds.deliverer, holds.receiver, lack) {
+            (Kind::FreeOfPayment, _, _, _) => Sides::Securities,
+            (Kind::PaymentOnly, _, _, _) => Sides::Cash,
+            (Kind::AgainstPayment, true, true, _) => Sides::OneEach,
+            (Kind::WithPayment, true, _, _) | (Kind::WithPayment, _, true, _) => Sides::OneEach,
+            (Kind::AgainstPayment, true, false, _) => Sides::Securities,
+            (Kind::AgainstPayment, false, true, _) => Sides::Cash,
+            (_, false, false, Lack::Cash) => Sides::Cash,
+            (_, false, false, Lack::Securities | Lack::Nothing) => Sides::Securities,
+        }
     }
-}
 
-// The side of a late pair's fail on each day from its ISD to the day before it was matched.
-pub(crate) fn when_late(kind: Kind, side: Side) -> Sides
-    ensures { result ≡ sides_when_late kind side }
-{
-    match kind {
-        Kind::FreeOfPayment => Sides::Securities,
-        Kind::PaymentOnly => Sides::Cash,
-        Kind::AgainstPayment => by_side(side),
-        Kind::WithPayment => by_side(side),
-    }
-}
-
-// The side of the one who entered last, for a pair against or with payment.
-fn by_side(side: Side) -> Sides
-    ensures { result ≡ sides_when_late Kind.AgainstPayment side }
-{
-    match side {
-        Side::Deliverer => Sides::Securities,
-        Side::Receiver => Sides::Cash,
+    /// On a day before the pair was matched.
+    pub fn when_late(kind: Kind, side: Side) -> Sides
+        ensures { result ≡ sides_when_late kind side }
+    {
+        match (kind, side) {
+            (Kind::FreeOfPayment, _) => Sides::Securities,
+            (Kind::PaymentOnly, _) => Sides::Cash,
+            (_, Side::Deliverer) => Sides::Securities,
+            (_, Side::Receiver) => Sides::Cash,
+        }
     }
 }

@@ -1,3 +1,13 @@
-pub mod Theorems
-pub mod Functions
-pub mod Worked
+pub mod Numerals
+pub mod Composed
+pub mod Fields
+pub mod Calls
+pub mod Places
+pub mod Unique
+pub mod Readings
+pub mod Feeds
+pub mod Files
+pub mod DecimalTexts
+pub mod Buffers
+pub mod Scanned
+pub mod WorkedTexts

@@ -1,9 +1,7 @@
-pub mod Bytes
-pub mod Decimal
-pub mod Fields
 pub mod Grammar
+pub mod Parts
 pub mod Reading
-pub mod Names
+pub mod Written
 pub mod Texts
-pub mod Writing
+pub mod Decimals
 pub mod Worked

@@ -1,86 +1,63 @@
--- How a line is read. Document 01, 'The calls as text'. Assumes nothing.
-use Rattle.std.specs.Prelude.{ℕ, suc, ◌+◌, ◌*◌, ◌-◌, ◌<◌, ◌↔◌, ◌≡◌, List, [], ◌∷◌, ◌++◌, Bool, true, false, cond, not, ◌&&◌, ◌||◌, length, get_or, drop, eqb}
-use Rattle.book.specs.Sums.{within}
-use Rattle.lines.specs.Bytes.{zero_digit, nine_digit, comma, line_feed}
-use Rattle.lines.specs.Fields.{Call, last_column, fields_of, highest_in, lowest_in}
-use Rattle.lines.specs.Grammar.{LineStands, FirstWrong}
-pub use Rattle.lines.specs.declared.reading.Line.{Line}
+-- What a line is read as, and where reading goes on. docs/RULES.md, 'The calls as text'.
+use Rattle.std.specs.Prelude.{◌≡◌, ℕ, ◌+◌, ◌==◌, ◌<◌, ◌≤◌, ◌↔◌, List, [], ◌∷◌, ◌++◌, Bool, length, drop, Option, Some, None, MatchOption}
+use Rattle.std.specs.List.{after_first}
+use Rattle.book.specs.declared.calls.Call.{Call}
+use Rattle.lines.specs.declared.reader.Line.{Line}
+use Rattle.lines.specs.declared.reader.Line.TheVariants.{Correct, Wrong}
+use Rattle.lines.specs.declared.reader.Lines.{Lines}
+use Rattle.lines.specs.Grammar.{IsFirstWrongPlace, IsLine, HasShortFields, line_of}
 
--- ---- what comes back
+-- the LF byte
+abbrev pub is_line_feed : ℕ → Bool
+is_line_feed byte = byte == 10
 
--- 'A line read is a call, or the place of its first wrong byte. With no byte left there is no line.'
-pub data Reading : Type 0 where
-  fields : List ℕ → Reading
-  wrong_at : ℕ → Reading
-  no_line : Reading
+-- A line read is a call, whose line stands there, or the place of its first wrong byte, counted from 0 at the line's start.
+-- Reading goes on behind the call's line, or behind the wrong line's LF, the first one from its wrong byte on.
+abbrev pub IsReadAt : List ℕ → ℕ → Line → ℕ → Type 0
+IsReadAt text at (Correct call) next = HasShortFields call × (drop at text ≡ line_of call ++ drop next text)
+IsReadAt text at (Wrong place) next =
+    IsFirstWrongPlace IsLine (drop at text) place × (drop next text ≡ after_first is_line_feed (drop (at + place) text))
 
--- a call as it is read: by its fields
-abbrev pub as_read : Call → Reading
-as_read c = fields (fields_of c)
+-- the line at a place, and the place where the next one starts
+pub record IsLineAt (text : List ℕ) (at : ℕ) (line : Line) (next : ℕ) : Type 0 where
+  pub is_read : IsReadAt text at line next
+  pub later : at < next
+  pub within : next ≤ length text
 
--- the paper's values of what comes back: the call's fields, or the place
-abbrev pub read_by : Line → Reading
-read_by (Line.Correct c) = as_read c
-read_by (Line.Wrong place) = wrong_at place
-read_by Line.NoLine = no_line
+-- what is read at a place: with no byte left there is no line
+abbrev pub IsReading : List ℕ → ℕ → Option (Line × ℕ) → Type 0
+IsReading text at read = MatchOption read (length text ≤ at) (λ (line, next). IsLineAt text at line next)
 
--- ---- the scan
+-- the first line of a text, if it has one
+abbrev pub IsFirstLine : List ℕ → Option Line → Type 0
+IsFirstLine text line = MatchOption line (text ≡ []) (λ first. (next : ℕ) × IsLineAt text 0 first next)
 
--- another digit may follow where value was read of a field, nothing where it is empty: no 0 leads
-abbrev pub takes_digit : Bool → ℕ → Bool
-takes_digit empty value = empty || not (eqb value 0)
+-- the reader's next line: where no byte is left there is none, and the reader stays
+abbrev pub GivesLine : Lines → Option Line → Lines → Type 0
+GivesLine before None after = (length before.text.now ≤ before.at) × (after ≡ before)
+GivesLine before (Some line) after = IsLineAt before.text.now before.at line after.at × (after.text ≡ before.text)
 
--- the byte is a digit that may follow, and the number so far is from the field's lowest value to its highest
-unfoldable pub digit_fits : ℕ → ℕ → Bool → ℕ → ℕ → Bool
-digit_fits column highest empty value b =
-    within zero_digit nine_digit b && takes_digit empty value
-    && within (lowest_in column) highest (value * 10 + (b - zero_digit))
+-- the lines of a text from a place on
+abbrev pub AreLines : List ℕ → ℕ → List Line → Type 0
+AreLines text at [] = length text ≤ at
+AreLines text at (line ∷ lines) = (next : ℕ) × IsLineAt text at line next × AreLines text next lines
 
--- the byte ends the field: a comma, and after the last one LF
-unfoldable pub end_fits : ℕ → Bool → ℕ → Bool
-end_fits column empty b = not empty && eqb b (cond (eqb column last_column) line_feed comma)
+-- ---- what follows, each with its function in `law`
 
--- The bytes from left to right: n were right before them, f are the fields that have ended, and value was read of the next,
--- nothing where it is empty.
-unfoldable pub scan : List ℕ → ℕ → List ℕ → Bool → ℕ → Reading
-scan [] n f empty value = wrong_at n
-scan (b ∷ bs) n f empty value =
-    let digit = scan bs (suc n) f false (value * 10 + (b - zero_digit)) in
-    let ended = scan bs (suc n) (f ++ (value ∷ [])) true 0 in
-    cond (digit_fits (length f) (highest_in (get_or f 0 0) (length f)) empty value b) digit
-    (cond (end_fits (length f) empty b) (cond (eqb (length f) last_column) (fields (f ++ (value ∷ []))) ended)
-    (wrong_at n))
+-- the line of this call stands at the start of a text
+abbrev pub LineStands : Call → List ℕ → Type 0
+LineStands call text = HasShortFields call × ((rest : List ℕ) × (text ≡ line_of call ++ rest))
 
--- the line at the start of a text
-unfoldable pub line_of : List ℕ → Reading
-line_of [] = no_line
-line_of (b ∷ bs) = scan (b ∷ bs) 0 [] true 0
+-- What comes back for a text is a call exactly where that call's line stands, a place exactly where that is the first wrong
+-- byte's, and no line exactly where there is no byte.
+pub record IsRight (text : List ℕ) (line : Option Line) : Type 0 where
+  pub call : (call : Call) → (line ≡ Some (Correct call)) ↔ LineStands call text
+  pub wrong : (place : ℕ) → (line ≡ Some (Wrong place)) ↔ ((0 < length text) × IsFirstWrongPlace IsLine text place)
+  pub none : (line ≡ None) ↔ (text ≡ [])
 
--- the line at a place of a text
-unfoldable pub line_at : List ℕ → ℕ → Reading
-line_at s at = line_of (drop at s)
-
--- how many bytes the line at the start of a text has: up to and including its LF, or all
-unfoldable pub line_length : List ℕ → ℕ
-line_length [] = 0
-line_length (b ∷ bs) = let more = line_length bs in suc (cond (eqb b line_feed) 0 more)
-
--- 'Reading goes on after the wrong line's LF': where the line after the one at a place starts
-unfoldable pub next_at : List ℕ → ℕ → ℕ
-next_at s at = at + line_length (drop at s)
-
--- ---- that the scan is the grammar
-
--- The scan is the grammar: it answers a call exactly where that call's line stands, a place exactly where that is the first
--- wrong byte's, and no line exactly where there is no byte; and the fields it answers are always those of a call.
-pub record ScanIsGrammar (s : List ℕ) : Type 0 where
-  pub call : (c : Call) → (line_of s ≡ as_read c) ↔ LineStands c s
-  pub wrong : (place : ℕ) → (line_of s ≡ wrong_at place) ↔ ((0 < length s) × FirstWrong s place)
-  pub none : (line_of s ≡ no_line) ↔ (s ≡ [])
-  pub known : (f : List ℕ) → line_of s ≡ fields f → (c : Call) × (f ≡ fields_of c)
-
--- What comes back for a text is right by the grammar, said of the answer itself.
-pub record IsRight (s : List ℕ) (r : Line) : Type 0 where
-  pub call : (c : Call) → (r ≡ Line.Correct c) ↔ LineStands c s
-  pub wrong : (place : ℕ) → (r ≡ Line.Wrong place) ↔ ((0 < length s) × FirstWrong s place)
-  pub none : (r ≡ Line.NoLine) ↔ (s ≡ [])
+-- Where reading goes on: behind a correct line, and behind the first LF from a wrong line's first wrong byte on. Either way
+-- that is behind the first LF from the line's start on.
+pub record GoesOn (text : List ℕ) (at : ℕ) (line : Line) (next : ℕ) : Type 0 where
+  pub correct : (call : Call) → line ≡ Correct call → next ≡ at + length (line_of call)
+  pub wrong : (place : ℕ) → line ≡ Wrong place → drop next text ≡ after_first is_line_feed (drop (at + place) text)
+  pub either : drop next text ≡ after_first is_line_feed (drop at text)

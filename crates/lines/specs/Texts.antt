@@ -1,55 +1,44 @@
--- A text as its lines, and a file of calls. Document 01, 'The calls as text'. Assumes nothing.
-use Rattle.std.specs.Prelude.{ℕ, ◌+◌, ◌≤◌, ◌<◌, ◌↔◌, ◌≡◌, List, [], ◌∷◌, ◌++◌, map, true, cond, length, drop, eqb}
-use Rattle.book.specs.Sums.{All}
-use Rattle.lines.specs.Bytes.{line_feed}
-use Rattle.lines.specs.Fields.{Call}
-use Rattle.lines.specs.Grammar.{written, Writable, LineStands}
-use Rattle.lines.specs.Reading.{Reading, wrong_at, as_read, line_of, line_at, next_at}
-use Rattle.lines.specs.Names.{names_line, has_names}
+-- A text as its lines, and a file of calls, written and read back. docs/RULES.md, 'The calls as text' and 'A call file'.
+use Rattle.std.specs.Prelude.{◌≡◌, ℕ, ◌↔◌, List, [], ◌∷◌, ◌++◌, length, map, if◌then◌else◌}
+use Rattle.std.specs.List.{AllByRecursion, AllZip, flat_map}
+use Rattle.book.specs.declared.calls.Call.{Call}
+use Rattle.lines.specs.declared.reader.Line.{Line}
+use Rattle.lines.specs.declared.reader.Line.TheVariants.{Correct}
+use Rattle.lines.specs.Grammar.{HasShortFields, line_of}
+use Rattle.lines.specs.Reading.{AreLines, IsLineAt, is_line_feed}
+use Rattle.lines.specs.Written.{names}
 
--- a byte in front of the first of some lines
+-- a byte in front of the first of some pieces
 abbrev pub with_byte : ℕ → List (List ℕ) → List (List ℕ)
-with_byte b [] = (b ∷ []) ∷ []
-with_byte b (l ∷ ls) = (b ∷ l) ∷ ls
+with_byte byte [] = (byte ∷ []) ∷ []
+with_byte byte (piece ∷ pieces) = (byte ∷ piece) ∷ pieces
 
--- a text cut after each LF; its last line may have none
-unfoldable pub cut : List ℕ → List (List ℕ)
+-- a text cut behind each LF; its last piece may have none
+abbrev pub cut : List ℕ → List (List ℕ)
 cut [] = []
-cut (b ∷ bs) = let more = cut bs in cond (eqb b line_feed) ((b ∷ []) ∷ more) (with_byte b more)
+cut (byte ∷ bytes) = if is_line_feed byte then (byte ∷ []) ∷ cut bytes else with_byte byte (cut bytes)
 
--- the lines of a text, as they are read
-unfoldable pub lines_of : List ℕ → List Reading
-lines_of s = map line_of (cut s)
+-- a piece, read by itself, is one line
+abbrev pub IsReadAlone : List ℕ → Line → Type 0
+IsReadAlone piece line = IsLineAt piece 0 line (length piece)
 
--- What a loop over `read_line` and `next_line` needs: it goes through the lines of the text, one at each turn, and ends.
-pub record LinesFrom (s : List ℕ) (at : ℕ) : Type 0 where
-  pub line : at < length s → lines_of (drop at s) ≡ line_at s at ∷ lines_of (drop (next_at s at) s)
-  pub above : at < length s → at < next_at s at
-  pub within : at < length s → next_at s at ≤ length s
-  pub none : length s ≤ at → lines_of (drop at s) ≡ []
+-- The lines of a text are its pieces, each read by itself, and as many.
+pub record ArePieces (text : List ℕ) (lines : List Line) : Type 0 where
+  pub alone : AllZip IsReadAlone (cut text) lines
+  pub count : length lines ≡ length (cut text)
 
--- Where reading goes on: behind a correct line, and 'after the wrong line's LF', the first one from its wrong byte on.
-pub record GoesOn (s : List ℕ) (at : ℕ) : Type 0 where
-  pub correct : (c : Call) → LineStands c (drop at s) → next_at s at ≡ at + length (written c)
-  pub wrong : (place : ℕ) → line_at s at ≡ wrong_at place → next_at s at ≡ next_at s (at + place)
-
--- ---- a file of calls, written and read back
-
--- the lines of some calls, one after the other
-unfoldable pub written_all : List Call → List ℕ
-written_all [] = []
-written_all (c ∷ cs) = written c ++ written_all cs
-
--- 'Names line, then one line a call'
+-- a call file: the names line, then one line a call
 abbrev pub file_of : List Call → List ℕ
-file_of cs = names_line ++ written_all cs
+file_of calls = names ++ flat_map line_of calls
 
 -- a text is a call file with no wrong line, of whatever length, and these are its calls
-abbrev pub ReadsAs : List ℕ → List Call → Type 0
-ReadsAs s cs = (has_names s ≡ true) × (lines_of (drop (length names_line) s) ≡ map as_read cs)
+pub record ReadsAs (text : List ℕ) (calls : List Call) : Type 0 where
+  pub rest : List ℕ
+  pub named : text ≡ names ++ rest
+  pub lines : AreLines rest 0 (map (λ call. Correct call) calls)
 
 -- A text reads as some calls exactly where it is the file that is written of them, none with a field of more than 11 digits.
 -- So a file that is written reads as the same calls, equal calls mean equal bytes, and equal bytes equal calls.
-pub record RoundTrip (s : List ℕ) (cs : List Call) : Type 0 where
-  pub same_bytes : ReadsAs s cs ↔ (All Writable cs × (s ≡ file_of cs))
-  pub same_calls : (ds : List Call) → ReadsAs s cs → ReadsAs s ds → cs ≡ ds
+pub record RoundTrip (text : List ℕ) (calls : List Call) : Type 0 where
+  pub same_bytes : ReadsAs text calls ↔ (AllByRecursion HasShortFields calls × (text ≡ file_of calls))
+  pub same_calls : (others : List Call) → ReadsAs text calls → ReadsAs text others → calls ≡ others

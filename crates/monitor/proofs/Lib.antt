@@ -1,3 +1,11 @@
-pub mod Theorems
-pub mod Functions
-pub mod Worked
+pub mod Joined
+pub mod Made
+pub mod Replays
+pub mod Answered
+pub mod Lengths
+pub mod Rows
+pub mod Tables
+pub mod Reported
+pub mod Listed
+pub mod Bounds
+pub mod WorkedTexts

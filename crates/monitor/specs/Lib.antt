@@ -1,11 +1,10 @@
 pub mod Replay
-pub mod Demand3
-pub mod Counts
 pub mod Texts
+pub mod RowText
 pub mod Table
-pub mod DayArgument
-pub mod RunOfDays
+pub mod Answers
+pub mod Days
 pub mod ReportTable
 pub mod ListTable
-pub mod AnswerTable
+pub mod Laws
 pub mod Worked

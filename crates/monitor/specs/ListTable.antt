@@ -1,75 +1,55 @@
 -- The participants with the highest fail rates as a text: both lists over a run of days, by number and then by value.
--- Document 02, card 2. Assumes nothing.
-use Rattle.std.specs.Prelude.{ℕ, ◌≤◌, cond, List, [], ◌∷◌, ◌++◌, length, get_or}
+use Rattle.std.specs.Prelude.{ℕ, List, [], ◌∷◌, ◌++◌, codes, Result, Ok, Err}
+use Rattle.std.specs.List.{flat_map}
+use Rattle.arrayvec.specs.ArrayVec.{ArrayVec}
 use Rattle.book.specs.declared.book.Book.{Book}
-use Rattle.book.specs.History.{Measure, number, value}
-use Rattle.lines.specs.Bytes.{bytes}
-use Rattle.lines.specs.Grammar.{joined}
-use Rattle.reports.specs.Reports.{days_refused}
-use Rattle.ranking.specs.declared.participants.Participant.{Participant}
-use Rattle.ranking.specs.declared.highest.Listed.{Listed}
-use Rattle.ranking.specs.Highest.{nobody}
-use Rattle.ranking.specs.Lists.{list_over}
-use Rattle.monitor.specs.Replay.{Replayed, replay_of}
-use Rattle.monitor.specs.Texts.{or_fault, refused_text, lines_from}
-use Rattle.monitor.specs.RunOfDays.{Days, run_of}
+use Rattle.book.specs.declared.calls.Refusal.{Refusal}
+use Rattle.lines.specs.declared.reader.Line.{Line}
+use Rattle.ranking.specs.declared.participant.Participant.{Participant}
+use Rattle.ranking.specs.declared.runs.Measure.{Measure}
+use Rattle.ranking.specs.declared.runs.Measure.TheVariants.{Number, Value}
+use Rattle.ranking.specs.Runs.{list_answer}
+use Rattle.monitor.specs.declared.days.Days.{Days}
+use Rattle.monitor.specs.declared.replay.Replayed.{Replayed}
+use Rattle.monitor.specs.Days.{run_of}
+use Rattle.monitor.specs.Replay.{replayed}
+use Rattle.monitor.specs.Texts.{joined, refused_text}
 
--- its columns
+-- the columns of the lists
 abbrev pub list_names : List ℕ
-list_names = bytes "measure,code,fails,total\n"
-
--- ---- a line
+list_names = codes "measure,code,fails,total\n"
 
 -- the measure, and a comma
 abbrev pub measure_text : Measure → List ℕ
-measure_text number = bytes "number,"
-measure_text value = bytes "value,"
+measure_text Number = codes "number,"
+measure_text Value = codes "value,"
 
 -- the line of a participant
 abbrev pub participant_line : Measure → Participant → List ℕ
-participant_line m p = measure_text m ++ joined (p.code ∷ p.fails ∷ p.total ∷ [])
+participant_line m p = measure_text m ++ joined 10 (p.code ∷ p.fails ∷ p.total ∷ [])
 
--- ---- the lines of a run of days
+-- a line for each of a list; where it is refused there is none
+abbrev pub given_list : Measure → Result (ArrayVec Participant) Refusal → List ℕ
+given_list m (Ok list) = flat_map (participant_line m) list.items
+given_list m (Err refusal) = []
 
--- a line for each of a list
-unfoldable pub participant_lines : Measure → List Participant → List ℕ
-participant_lines m [] = []
-participant_lines m (p ∷ ps) = participant_line m p ++ participant_lines m ps
+-- the lines of a measure's list
+abbrev pub list_lines : ℕ → ℕ → Book → Measure → List ℕ
+list_lines first last b m = given_list m (list_answer first last m b)
 
--- the names line, and both lists, or that the run is refused
-unfoldable pub lists_over : Book → ℕ → ℕ → List ℕ
-lists_over b first last =
-    list_names
-    ++ cond (days_refused b first last) (refused_text 9)
-    (participant_lines number (list_over b first last number) ++ participant_lines value (list_over b first last value))
+-- both lists, by number first; where the one is refused, so is the other
+abbrev pub both_lists : ℕ → ℕ → Book → Result (ArrayVec Participant) Refusal → List ℕ
+both_lists first last b (Ok by_number) = list_lines first last b Number ++ list_lines first last b Value
+both_lists first last b (Err refusal) = refused_text refusal
 
--- ---- the whole
+-- the names line, and the lists of a run of days
+abbrev pub lists_over : ℕ → ℕ → Book → List ℕ
+lists_over first last b = list_names ++ both_lists first last b (list_answer first last Number b)
 
 -- the lists of a file that was replayed
-unfoldable pub list_table_of : Replayed → Days → List ℕ
-list_table_of r days =
-    let run = run_of r.book.today days in or_fault r.number (lists_over r.book run.first run.last)
+abbrev pub lists_of : Days → Replayed → List ℕ
+lists_of days r = let run = run_of r.book.today days in lists_over run.0 run.1 r.book
 
--- the lists of a file
-abbrev pub list_text : List ℕ → Days → List ℕ
-list_text s days = list_table_of (replay_of s) days
-
--- ---- its length
-
--- as many bytes as it may take
-abbrev pub list_room : ℕ
-list_room = 8192
-
--- It takes no more, whatever the file and the run of days.
-abbrev pub ListsFit : Type 0
-ListsFit = (s : List ℕ) (days : Days) → length (list_text s days) ≤ list_room
-
--- ---- what the code puts
-
--- the line of a place of the list
-abbrev pub place_line : Measure → Listed → ℕ → List ℕ
-place_line m l place = participant_line m (get_or l.participants place nobody)
-
--- those of the places that are listed
-abbrev pub place_lines : Measure → Listed → List ℕ
-place_lines m l = lines_from (place_line m l) 0 l.count
+-- and of a file's lines
+abbrev pub lists : Days → List Line → List ℕ
+lists days lines = lists_of days (replayed lines)

@@ -1,113 +1,90 @@
--- A call file replayed from a fresh book: what comes of each of its lines, the book that they leave, and the counts.
--- Document 01, 'The calls as text' and 'Numbers given back'. Assumes nothing.
-use Rattle.std.specs.Prelude.{ℕ, ◌+◌, Bool, true, false, cond, not, ◌||◌, List, [], ◌∷◌, length, drop, ltb}
+-- A call file replayed on a fresh book: its lines, what comes of each, and what they leave.
+use Rattle.std.specs.Prelude.{◌≡◌, ℕ, ◌≤◌, Bool, false, not, List, [], ◌∷◌, ◌++◌, length, Result, Ok, Err, is_ok}
+use Rattle.std.specs.List.{count_by}
+use Rattle.book.specs.declared.calls.Call.{Call}
+use Rattle.book.specs.declared.calls.Refusal.{Refusal}
+use Rattle.book.specs.declared.calls.Refusal.TheVariants.{FaultyFile}
 use Rattle.book.specs.declared.book.Book.{Book}
-use Rattle.book.specs.Sums.{only, total}
-use Rattle.book.specs.Answers.{answer_number, is_accepted, refused, accepted}
-use Rattle.book.specs.Calls.{answer_of, after, fresh_book}
-use Rattle.lines.specs.Fields.{call_of}
-use Rattle.lines.specs.Reading.{Reading, fields, wrong_at, no_line}
-use Rattle.lines.specs.Names.{names_line, has_names}
-use Rattle.lines.specs.Texts.{lines_of}
-pub use Rattle.monitor.specs.declared.replay.ReplayedFile.{ReplayedFile}
-pub use Rattle.monitor.specs.declared.replay.LineCounts.{LineCounts}
+use Rattle.book.specs.Answers.{answer_to}
+use Rattle.book.specs.Book.{book_after, fresh_book}
+use Rattle.history.specs.History.{book_of, history_of}
+use Rattle.balance.specs.DailyBalance.{BalancesOnClosedDays}
+use Rattle.lines.specs.declared.reader.Line.{Line}
+use Rattle.lines.specs.declared.reader.Line.TheVariants.{Correct, Wrong}
+use Rattle.lines.specs.Reading.{AreLines}
+use Rattle.lines.specs.Written.{names}
+use Rattle.monitor.specs.declared.replay.LineAnswer.{LineAnswer}
+use Rattle.monitor.specs.declared.replay.LineAnswer.TheVariants.{Made, WrongByte}
+use Rattle.monitor.specs.declared.replay.Replayed.{Replayed}
 
 -- ---- the file
 
--- the most bytes that a file may have
+-- as many bytes as a file may have
 abbrev pub file_limit : ℕ
 file_limit = 65536
 
--- 10: names line wrong or over 65,536 bytes
-unfoldable pub is_faulty : List ℕ → Bool
-is_faulty s = not (has_names s) || ltb file_limit (length s)
+-- the names line, and so much behind it, of no more bytes together
+pub record IsSound (file rest : List ℕ) : Type 0 where
+  pub names_line : file ≡ names ++ rest
+  pub short : length file ≤ file_limit
 
--- the lines after the names line, as they are read; of a faulty file none is
-unfoldable pub call_lines : List ℕ → List Reading
-call_lines s = cond (is_faulty s) [] (lines_of (drop (length names_line) s))
+-- any other file
+abbrev pub IsFaulty : List ℕ → Type 0
+IsFaulty file = (rest : List ℕ) → IsSound file rest → ⊥
+
+-- the lines behind the names line
+abbrev pub HasLines : List ℕ → List Line → Type 0
+HasLines file lines = (rest : List ℕ) × IsSound file rest × AreLines rest 0 lines
 
 -- ---- a line
 
--- what comes of a line: the number that comes back from its call, 0 where none does, or the place of its first wrong byte
-pub data Answered : Type 0 where
-  numbered : ℕ → Answered
-  wrong_line : ℕ → Answered
+-- A correct line's call is made.
+abbrev pub answer_to_line : Book → Line → LineAnswer
+answer_to_line b (Correct call) = Made (answer_to call b)
+answer_to_line b (Wrong place) = WrongByte place
 
--- A correct line's call is made. A line of a text has a byte, so that none is read as no line.
-abbrev pub answer_to : Book → Reading → Answered
-answer_to b (fields f) = numbered (answer_of b (call_of f))
-answer_to b (wrong_at place) = wrong_line place
-answer_to b no_line = wrong_line 0
+-- A wrong line leaves the book the same.
+abbrev pub after_line : Book → Line → Book
+after_line b (Correct call) = book_after call b
+after_line b (Wrong place) = b
 
--- the book that its call hands back; a wrong line leaves it the same
-abbrev pub after_line : Book → Reading → Book
-after_line b (fields f) = after b (call_of f)
-after_line b (wrong_at place) = b
-after_line b no_line = b
+-- A wrong line is refused.
+abbrev pub is_accepted : LineAnswer → Bool
+is_accepted (Made answer) = is_ok answer
+is_accepted (WrongByte place) = false
 
--- ---- line after line, from a book on
+-- ---- line after line
 
--- what comes of each line: 'a wrong line is counted as refused and the next is read'
-unfoldable pub answers_from : Book → List Reading → List Answered
+-- the calls of the correct lines, in their order
+abbrev pub calls_in : List Line → List Call
+calls_in [] = []
+calls_in (Correct call ∷ lines) = call ∷ calls_in lines
+calls_in (Wrong place ∷ lines) = calls_in lines
+
+-- what comes of each line, from a book on
+abbrev pub answers_from : Book → List Line → List LineAnswer
 answers_from b [] = []
-answers_from b (l ∷ ls) = answer_to b l ∷ answers_from (after_line b l) ls
+answers_from b (line ∷ lines) = answer_to_line b line ∷ answers_from (after_line b line) lines
 
--- the book that they leave
-unfoldable pub after_lines : Book → List Reading → Book
-after_lines b [] = b
-after_lines b (l ∷ ls) = after_lines (after_line b l) ls
+-- and from a fresh one
+abbrev pub answers_of : List Line → List LineAnswer
+answers_of lines = answers_from fresh_book lines
 
--- ---- the counts
-
--- accepted: no number comes back
-abbrev pub is_accepted_line : Answered → Bool
-is_accepted_line (numbered n) = is_accepted n
-is_accepted_line (wrong_line place) = false
-
--- how many lines are accepted
-abbrev pub accepted_in : List Answered → ℕ
-accepted_in answers = total (λ x. only (is_accepted_line x) 1) answers
-
--- and how many are refused, wrong ones included
-abbrev pub refused_in : List Answered → ℕ
-refused_in answers = total (λ x. only (not (is_accepted_line x)) 1) answers
-
--- the counts of the code with one line more, accepted or refused
-abbrev pub with_line : Bool → LineCounts → LineCounts
-with_line true n = record { accepted = n.accepted + 1; refused = n.refused }
-with_line false n = record { accepted = n.accepted; refused = n.refused + 1 }
-
--- ---- the whole
-
--- what comes of each line of a file
-unfoldable pub answers_of : List ℕ → List Answered
-answers_of s = answers_from fresh_book (call_lines s)
-
--- the number that comes back, 0 where none does; the book; the counts
-pub record Replayed : Type 0 where
-  pub number : ℕ
-  pub book : Book
-  pub accepted : ℕ
-  pub refused : ℕ
-
--- A faulty file is 10.
-abbrev pub file_number : List ℕ → ℕ
-file_number s = refused (is_faulty s) 10 accepted
-
--- Its book is the fresh one and its counts are 0, since none of its lines is read.
-unfoldable pub replay_of : List ℕ → Replayed
-replay_of s = record {
-  number = file_number s;
-  book = after_lines fresh_book (call_lines s);
-  accepted = accepted_in (answers_of s);
-  refused = refused_in (answers_of s);
+-- the book of their calls, how many lines were accepted, and how many refused, wrong ones included
+abbrev pub replayed : List Line → Replayed
+replayed lines = record {
+  book = book_of (calls_in lines);
+  accepted = count_by is_accepted (answers_of lines);
+  refused = count_by (λ answer. not (is_accepted answer)) (answers_of lines);
 }
 
--- what a file replayed by the code stands for
-abbrev pub replayed_by : ReplayedFile → Replayed
-replayed_by r = record {
-  number = answer_number r.answer;
-  book = r.book;
-  accepted = r.accepted;
-  refused = r.refused;
-}
+-- ---- what comes back
+
+-- 10: a faulty file
+abbrev pub IsReplayOf : List ℕ → Result Replayed Refusal → Type 0
+IsReplayOf file (Ok r) = (lines : List Line) × HasLines file lines × (r ≡ replayed lines)
+IsReplayOf file (Err refusal) = IsFaulty file × (refusal ≡ FaultyFile)
+
+-- The rows of a book balance against the calls of a file and their answers.
+abbrev pub BalancesFor : List ℕ → Book → Type 0
+BalancesFor file b = (lines : List Line) → HasLines file lines → BalancesOnClosedDays (history_of (calls_in lines)) b

@@ -1,41 +1,33 @@
--- Texts that the monitor writes: into a lent buffer that holds them whole, and what they share. Assumes nothing.
-use Rattle.std.specs.Prelude.{ℕ, zero, suc, ◌≤◌, ◌≡◌, cond, List, [], ◌∷◌, ◌++◌, length, take, drop}
-use Rattle.book.specs.Answers.{is_accepted}
-use Rattle.lines.specs.Bytes.{bytes}
-use Rattle.lines.specs.Grammar.{joined}
+-- What the texts share.
+use Rattle.std.specs.Prelude.{◌≡◌, ℕ, List, [], ◌∷◌, ◌++◌, ◌⊎◌, codes}
+use Rattle.std.specs.Fmt.{decimal}
+use Rattle.book.specs.declared.calls.Refusal.{Refusal}
+use Rattle.book.specs.Calls.{refusal_number}
+use Rattle.lines.specs.declared.reader.Line.{Line}
+use Rattle.monitor.specs.Replay.{HasLines, IsFaulty}
 
--- how many bytes are written, and what the buffer then holds
-pub record Written : Type 0 where
-  pub count : ℕ
-  pub buffer : List ℕ
+-- a number, and a byte behind it
+abbrev pub ended : ℕ → ℕ → List ℕ
+ended end n = decimal n ++ end ∷ []
 
--- what comes back, and the buffer
-abbrev pub written_by : ℕ → List ℕ → Written
-written_by count buffer = record { count = count; buffer = buffer }
+-- a comma where more numbers follow
+abbrev pub end_before : ℕ → List ℕ → ℕ
+end_before end [] = end
+end_before end (n ∷ ns) = 44
 
--- A text stands whole at the buffer's start, and the bytes behind it stay.
-abbrev pub whole : List ℕ → List ℕ → Written
-whole text buffer = record { count = length text; buffer = text ++ drop (length text) buffer }
+-- numbers with commas between them, and a byte behind the last
+abbrev pub joined : ℕ → List ℕ → List ℕ
+joined end [] = []
+joined end (n ∷ ns) = ended (end_before end ns) n ++ joined end ns
 
--- So many bytes stand at the buffer's start, in the form that the part `&buffer[..count]` asks for.
-abbrev pub Counted : ℕ → List ℕ → Type 0
-Counted count buffer = (count ≤ length buffer) × (count ≡ length (take count buffer))
+-- On a faulty file it writes `fault` and `10` on two lines.
+abbrev pub fault : List ℕ
+fault = codes "fault\n10\n"
 
--- ---- what the texts share
+-- of a refused run of days: `refused` and the number on two lines
+abbrev pub refused_text : Refusal → List ℕ
+refused_text refusal = codes "refused\n" ++ ended 10 (refusal_number refusal)
 
--- 'On a faulty file it writes fault and 10 on two lines.'
-abbrev pub fault_text : List ℕ
-fault_text = bytes "fault\n10\n"
-
--- the text of a file, by the number that came back of it
-abbrev pub or_fault : ℕ → List ℕ → List ℕ
-or_fault number text = cond (is_accepted number) text fault_text
-
--- of a refused run of days: `refused` and a number on two lines
-abbrev pub refused_text : ℕ → List ℕ
-refused_text n = bytes "refused\n" ++ joined (n ∷ [])
-
--- the lines of n numbers from the first on
-unfoldable pub lines_from : (ℕ → List ℕ) → ℕ → ℕ → List ℕ
-lines_from line first zero = []
-lines_from line first (suc n) = line first ++ lines_from line (suc first) n
+-- the text of a file's lines, or that it is faulty
+abbrev pub IsTextOf : (List Line → List ℕ) → List ℕ → List ℕ → Type 0
+IsTextOf text file bytes = ((lines : List Line) × HasLines file lines × (bytes ≡ text lines)) ⊎ (IsFaulty file × (bytes ≡ fault))

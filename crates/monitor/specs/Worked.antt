@@ -1,42 +1,42 @@
--- Files worked by hand, each with its texts: document 01's example, a file with refused and wrong lines, and faulty files.
--- Document 01, 'The calls as text'; document 02, cards 1 and 2. Assumes nothing.
-use Rattle.std.specs.Prelude.{ℕ, ◌≡◌, List, [], ◌∷◌, map}
+-- Files worked by hand, each with its texts: the worked file of docs/RULES.md, one with refused and wrong lines, and faulty files.
+use Rattle.std.specs.Prelude.{◌≡◌, ℕ, List, [], ◌∷◌, ◌++◌, codes, replicate, Result, Ok, Err}
+use Rattle.std.specs.List.{flat_map, AllByRecursion}
 use Prim.Native.String.{String}
-use Rattle.lines.specs.Worked.{text_of}
-use Rattle.monitor.specs.Table.{table_text}
-use Rattle.monitor.specs.RunOfDays.{Days}
-use Rattle.monitor.specs.ReportTable.{report_text}
-use Rattle.monitor.specs.ListTable.{list_text}
-use Rattle.monitor.specs.AnswerTable.{answer_text}
+use Rattle.book.specs.declared.calls.Refusal.{Refusal}
+use Rattle.book.specs.declared.calls.Refusal.TheVariants.{OutOfRange, NotClosed, ShortBuffer}
+use Rattle.book.specs.Rows.{row_answer}
+use Rattle.history.specs.History.{book_of}
+use Rattle.lines.specs.Worked.{worked_file, worked_calls}
+use Rattle.monitor.specs.declared.days.Days.TheVariants.{AllClosed, FromTo}
+use Rattle.monitor.specs.Texts.{IsTextOf}
+use Rattle.monitor.specs.RowText.{written, row_text}
+use Rattle.monitor.specs.Table.{table}
+use Rattle.monitor.specs.ReportTable.{reports}
+use Rattle.monitor.specs.ListTable.{lists}
+use Rattle.monitor.specs.Answers.{answers}
 
--- the names line of a call file
+-- lines as one text
+abbrev pub text_of : List String → List ℕ
+text_of lines = flat_map codes lines
+
+abbrev table_columns : String
+table_columns = "day,total_n,settled_n,sec_n,cash_n,total_v,settled_v,sec_v,cash_v,isd_v\n"
+
+abbrev report_columns : String
+report_columns = "first,last,category,total_n,settled_n,sec_n,cash_n,total_v,settled_v,sec_v,cash_v,isd_v,rate_n,rate_v,duration\n"
+
+abbrev list_columns : String
+list_columns = "measure,code,fails,total\n"
+
 abbrev file_columns : String
 file_columns = "call,id,kind,category,day,side,amount,deliverer,receiver\n"
 
--- ---- document 01's example
-
--- its file, with codes that no paper gives
-abbrev paper_file : List ℕ
-paper_file =
-    text_of
-    (file_columns
-    ∷ "1,1,1,1,0,1,10000,1,2\n"
-    ∷ "4,1,0,0,0,0,5000,0,0\n"
-    ∷ "6,0,0,0,0,0,0,0,0\n"
-    ∷ "4,1,0,0,0,0,2000,0,0\n"
-    ∷ "6,0,0,0,0,0,0,0,0\n"
-    ∷ "6,0,0,0,0,0,0,0,0\n"
-    ∷ "4,1,0,0,0,0,3000,0,0\n"
-    ∷ "1,2,1,1,1,2,4000,2,1\n"
-    ∷ "4,2,0,0,0,0,4000,0,0\n"
-    ∷ "6,0,0,0,0,0,0,0,0\n"
-    ∷ [])
+-- ---- the worked file of docs/RULES.md
 
 -- its table, byte for byte
-abbrev paper_table : List ℕ
-paper_table =
-    text_of
-    ("day,total_n,settled_n,sec_n,cash_n,total_v,settled_v,sec_v,cash_v,isd_v\n"
+abbrev pub worked_table : List ℕ
+worked_table = text_of (
+    table_columns
     ∷ "0,4,2,2,0,20000,10000,10000,0,10000\n"
     ∷ "1,6,2,2,2,18000,4000,6000,8000,8000\n"
     ∷ "2,4,0,2,2,14000,0,6000,8000,0\n"
@@ -45,15 +45,10 @@ paper_table =
     ∷ "10,0\n"
     ∷ [])
 
--- the names line of reports
-abbrev report_columns : String
-report_columns = "first,last,category,total_n,settled_n,sec_n,cash_n,total_v,settled_v,sec_v,cash_v,isd_v,rate_n,rate_v,duration\n"
-
 -- its reports over all closed days: rates 5556 and 5758, duration 211; both pairs are in category 1
-abbrev paper_reports : List ℕ
-paper_reports =
-    text_of
-    (report_columns
+abbrev pub worked_reports : List ℕ
+worked_reports = text_of (
+    report_columns
     ∷ "0,3,0,18,8,6,4,66000,28000,22000,16000,18000,5556,5758,211\n"
     ∷ "0,3,1,18,8,6,4,66000,28000,22000,16000,18000,5556,5758,211\n"
     ∷ "0,3,2,0,0,0,0,0,0,0,0,0,0,0,-\n"
@@ -67,37 +62,24 @@ paper_reports =
     ∷ [])
 
 -- a run that is refused: the names line alone, then the refusal
-abbrev refused_reports : List ℕ
+abbrev pub refused_reports : List ℕ
 refused_reports = text_of (report_columns ∷ "refused\n" ∷ "9\n" ∷ [])
-
--- the columns of the lists
-abbrev list_columns : String
-list_columns = "measure,code,fails,total\n"
 
 -- its lists over all closed days: both participants are at the ends of both pairs, so each has the figures of category 0, and
 -- of two that are level the lower code stands first
-abbrev paper_lists : List ℕ
-paper_lists =
-    text_of
-    (list_columns
-    ∷ "number,1,10,18\n"
-    ∷ "number,2,10,18\n"
-    ∷ "value,1,38000,66000\n"
-    ∷ "value,2,38000,66000\n"
-    ∷ [])
+abbrev pub worked_lists : List ℕ
+worked_lists = text_of (list_columns ∷ "number,1,10,18\n" ∷ "number,2,10,18\n" ∷ "value,1,38000,66000\n" ∷ "value,2,38000,66000\n" ∷ [])
 
--- a run that is refused has no entries
-abbrev refused_lists : List ℕ
+abbrev pub refused_lists : List ℕ
 refused_lists = text_of (list_columns ∷ "refused\n" ∷ "9\n" ∷ [])
 
 -- ---- refused and wrong lines
 
 -- an enter with a code over 40; a settle of an id that isn't open; a wrong line, of which two bytes are wrong; an empty one;
 -- a cancel with a code; a close of seven columns, as it was before the codes; one without its LF
-abbrev mixed_file : List ℕ
-mixed_file =
-    text_of
-    (file_columns
+abbrev pub mixed_file : List ℕ
+mixed_file = text_of (
+    file_columns
     ∷ "1,7,3,9,0,1,250,1,2\n"
     ∷ "1,8,3,9,0,1,250,1,41\n"
     ∷ "4,8,0,0,0,0,250,0,0\n"
@@ -110,20 +92,13 @@ mixed_file =
     ∷ [])
 
 -- each of these seven lines is refused once, and the next one is read
-abbrev mixed_table : List ℕ
-mixed_table =
-    text_of
-    ("day,total_n,settled_n,sec_n,cash_n,total_v,settled_v,sec_v,cash_v,isd_v\n"
-    ∷ "0,2,0,2,0,500,0,500,0,500\n"
-    ∷ "accepted,refused\n"
-    ∷ "2,7\n"
-    ∷ [])
+abbrev pub mixed_table : List ℕ
+mixed_table = text_of (table_columns ∷ "0,2,0,2,0,500,0,500,0,500\n" ∷ "accepted,refused\n" ∷ "2,7\n" ∷ [])
 
 -- what came of each line
-abbrev mixed_answers : List ℕ
-mixed_answers =
-    text_of
-    ("line,answer,place\n"
+abbrev pub mixed_answers : List ℕ
+mixed_answers = text_of (
+    "line,answer,place\n"
     ∷ "1,0,-\n"
     ∷ "2,2,-\n"
     ∷ "3,5,-\n"
@@ -138,20 +113,14 @@ mixed_answers =
 -- ---- files without a call, and faulty ones
 
 -- the names line alone: no day is closed
-abbrev no_calls : List ℕ
+abbrev pub no_calls : List ℕ
 no_calls = text_of (file_columns ∷ [])
 
--- its table
-abbrev no_calls_table : List ℕ
-no_calls_table =
-    text_of
-    ("day,total_n,settled_n,sec_n,cash_n,total_v,settled_v,sec_v,cash_v,isd_v\n"
-    ∷ "accepted,refused\n"
-    ∷ "0,0\n"
-    ∷ [])
+abbrev pub no_calls_table : List ℕ
+no_calls_table = text_of (table_columns ∷ "accepted,refused\n" ∷ "0,0\n" ∷ [])
 
 -- no byte; a names line without its LF, with CR, and as it was before the codes
-abbrev faulty_files : List (List ℕ)
+abbrev pub faulty_files : List (List ℕ)
 faulty_files =
     []
     ∷ text_of ("call,id,kind,category,day,side,amount,deliverer,receiver" ∷ [])
@@ -159,27 +128,57 @@ faulty_files =
     ∷ text_of ("call,id,kind,category,day,side,amount\n" ∷ "6,0,0,0,0,0,0\n" ∷ [])
     ∷ []
 
--- the same two lines for each
-abbrev fault : List ℕ
-fault = text_of ("fault\n" ∷ "10\n" ∷ [])
+-- the same two lines for each text
+abbrev pub fault_lines : List ℕ
+fault_lines = text_of ("fault\n" ∷ "10\n" ∷ [])
+
+pub record IsFaultAll (file : List ℕ) : Type 0 where
+  pub table_text : IsTextOf table file fault_lines
+  pub reports_text : IsTextOf (reports AllClosed) file fault_lines
+  pub lists_text : IsTextOf (lists AllClosed) file fault_lines
+  pub answers_text : IsTextOf answers file fault_lines
+
+-- ---- rows as text
+
+-- a buffer of so many question marks
+abbrev pub marks : ℕ → List ℕ
+marks n = replicate n 63
+
+-- what comes back of a row after the worked calls, and what a buffer of so many question marks then holds
+abbrev pub worked_row : ℕ → ℕ → ℕ → Result ℕ Refusal × List ℕ
+worked_row day category room = row_text day (marks room) (row_answer day category (book_of worked_calls))
+
+pub record RowsHold : Type 0 where
+  -- the four lines of the table, in front of what is left of 128 question marks
+  pub day_0 : worked_row 0 0 128 ≡ (Ok 36, codes "0,4,2,2,0,20000,10000,10000,0,10000\n" ++ marks 92)
+  pub day_1 : worked_row 1 0 128 ≡ (Ok 36, codes "1,6,2,2,2,18000,4000,6000,8000,8000\n" ++ marks 92)
+  pub day_2 : worked_row 2 0 128 ≡ (Ok 30, codes "2,4,0,2,2,14000,0,6000,8000,0\n" ++ marks 98)
+  pub day_3 : worked_row 3 0 128 ≡ (Ok 28, codes "3,4,4,0,0,14000,14000,0,0,0\n" ++ marks 100)
+  -- a buffer of 127 bytes, where the line would fit
+  pub short : worked_row 3 0 127 ≡ (Err ShortBuffer, marks 127)
+  -- the lowest number that applies
+  pub not_closed : worked_row 4 0 128 ≡ (Err NotClosed, marks 128)
+  pub not_closed_and_short : worked_row 4 0 127 ≡ (Err NotClosed, marks 127)
+  pub out_of_range : worked_row 4 10 127 ≡ (Err OutOfRange, marks 127)
+  -- a line that is longer than the buffer is written as far as the buffer goes
+  pub cut_off : written (codes "12,34\n") (marks 4) ≡ codes "12,3"
 
 -- ---- that they hold
 
--- Each text is what the definitions give.
-pub record WorkedHold : Type 0 where
-  pub table : table_text paper_file ≡ paper_table
-  pub reports : report_text paper_file Days.AllClosed ≡ paper_reports
-  pub run : report_text paper_file (Days.FromTo 0 3) ≡ paper_reports
+pub record TextsHold : Type 0 where
+  pub table_text : IsTextOf table worked_file worked_table
+  pub reports_text : IsTextOf (reports AllClosed) worked_file worked_reports
+  pub run : IsTextOf (reports (FromTo 0 3)) worked_file worked_reports
   -- day 4 is not closed, and 3 is after 2
-  pub refused : map (λ last. report_text paper_file (Days.FromTo 3 last)) (4 ∷ 2 ∷ []) ≡ refused_reports ∷ refused_reports ∷ []
-  pub lists : map (list_text paper_file) (Days.AllClosed ∷ Days.FromTo 0 3 ∷ []) ≡ paper_lists ∷ paper_lists ∷ []
-  pub refused_runs : map (λ last. list_text paper_file (Days.FromTo 3 last)) (4 ∷ 2 ∷ []) ≡ refused_lists ∷ refused_lists ∷ []
-  pub mixed : table_text mixed_file ≡ mixed_table
-  pub answers : answer_text mixed_file ≡ mixed_answers
-  pub empty : table_text no_calls ≡ no_calls_table
-  pub unclosed : report_text no_calls Days.AllClosed ≡ refused_reports
-  pub faulty_tables : map table_text faulty_files ≡ fault ∷ fault ∷ fault ∷ fault ∷ []
-  pub faulty_reports : map (λ s. report_text s Days.AllClosed) faulty_files ≡ fault ∷ fault ∷ fault ∷ fault ∷ []
-  pub unclosed_lists : list_text no_calls Days.AllClosed ≡ refused_lists
-  pub faulty_lists : map (λ s. list_text s Days.AllClosed) faulty_files ≡ fault ∷ fault ∷ fault ∷ fault ∷ []
-  pub faulty_answers : map answer_text faulty_files ≡ fault ∷ fault ∷ fault ∷ fault ∷ []
+  pub refused : IsTextOf (reports (FromTo 3 4)) worked_file refused_reports
+  pub wrong_way_round : IsTextOf (reports (FromTo 3 2)) worked_file refused_reports
+  pub lists_text : IsTextOf (lists AllClosed) worked_file worked_lists
+  pub lists_of_run : IsTextOf (lists (FromTo 0 3)) worked_file worked_lists
+  pub refused_run : IsTextOf (lists (FromTo 3 4)) worked_file refused_lists
+  pub lists_wrong_way_round : IsTextOf (lists (FromTo 3 2)) worked_file refused_lists
+  pub mixed : IsTextOf table mixed_file mixed_table
+  pub answers_text : IsTextOf answers mixed_file mixed_answers
+  pub empty : IsTextOf table no_calls no_calls_table
+  pub unclosed : IsTextOf (reports AllClosed) no_calls refused_reports
+  pub unclosed_lists : IsTextOf (lists AllClosed) no_calls refused_lists
+  pub faulty : AllByRecursion IsFaultAll faulty_files

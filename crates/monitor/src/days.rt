@@ -1,42 +1,45 @@
-// The run of days that a text is over.
-ghost use Rattle.std.specs.Prelude.{◌≡◌, ◌-◌};
-ghost use Rattle.monitor.specs.RunOfDays.{run_of};
+//! The days that a program is asked for, and the run of days that a text is over.
 
-// The days asked for: all that are closed, or those from the first to the last.
-#[derive(Clone, Copy)]
+ghost use Rattle.std.specs.Prelude.{◌≡◌};
+ghost use Rattle.monitor.specs.Days.{day_of, run_of};
+
+use book::limits::DAYS;
+
+/// The days asked for.
+///
+/// No `Option` of two numbers: all closed days are a choice of their own, and `None` would not say so.
+#[derive(Clone, Copy, Debug, PartialEq, Eq)]
 pub enum Days {
     AllClosed,
+    /// From the first to the last, both included.
     FromTo(u64, u64),
 }
 
-// From the first day to the last.
-#[derive(Drop)]
-pub(crate) struct Run {
-    pub first: u64,
-    pub last: u64,
-}
-
-// The day before today; on day 0, when none is closed, that day, whose text is refused.
-fn last_closed(today: u64) -> u64
-    ensures { result ≡ today - 1 }
+/// The day that digits say, 64 for each number over 63; other bytes, and none, say no day.
+pub fn day_of(digits: &[u8]) -> Option<u64>
+    ensures { result ≡ day_of digits.now }
 {
-    if today == 0 { 0 } else { today - 1 }
+    if digits.is_empty() {
+        return None;
+    }
+    let mut day: u64 = 0;
+    for byte in digits {
+        if !byte.is_ascii_digit() {
+            return None;
+        }
+        day = (day * 10 + u64::from(*byte - b'0')).min(DAYS);
+    }
+    Some(day)
 }
 
 impl Days {
-    // The run of days that they stand for, where that is today.
-    pub(crate) fn run(self, today: u64) -> Run
+    /// The first and the last of them on a day; where none is closed, day 0, whose text is refused.
+    pub(crate) fn run(self, today: u64) -> (u64, u64)
         ensures { result ≡ run_of today self }
     {
         match self {
-            Days::AllClosed => Run {
-                first: 0,
-                last: last_closed(today),
-            },
-            Days::FromTo(first, last) => Run {
-                first: first,
-                last: last,
-            },
+            Days::AllClosed => (0, today.saturating_sub(1)),
+            Days::FromTo(first, last) => (first, last),
         }
     }
 }

@@ -1,103 +1,104 @@
-// The participants with the highest fail rates of a call file, by number and by value over a run of days. Document 02,
-// card 2.
-ghost use Rattle.std.specs.Prelude.{◌≡◌, ◌≤◌};
-ghost use Rattle.book.specs.Limits.{largest_code};
-ghost use Rattle.lines.specs.Writing.{Put};
-ghost use Rattle.ranking.specs.Runs.{measure_of};
-ghost use Rattle.monitor.specs.Replay.{replayed_by};
-ghost use Rattle.monitor.specs.Texts.{written_by, whole, Counted};
-ghost use Rattle.monitor.specs.ListTable.{measure_text, participant_line, place_lines, lists_over, list_table_of, list_text};
+//! The participants with the highest fail rates of a call file, by number and by value over a run of days.
+
+ghost use Rattle.std.specs.Prelude.{◌≡◌, ◌+◌, ◌≤◌, ◌++◌, [], length};
+ghost use Rattle.std.specs.List.{flat_map};
+ghost use Rattle.monitor.specs.Texts.{IsTextOf};
+ghost use Rattle.monitor.specs.ListTable.{measure_text, participant_line, list_lines, lists_over, lists_of, lists};
 
 use crate::days::Days;
-use crate::fault::{put_fault, put_refused};
-use crate::replay::{ReplayedFile, replay};
+use crate::page::{FAULT, Page, push, push_numbers, push_refused};
+use crate::replay::{Replayed, replay};
 use book::book::Book;
-use book::calls::Answer;
-use lines::writing::{place_within, put_bytes, put_line};
-use ranking::highest::Listed;
-use ranking::lists::highest_rates;
-use ranking::participants::Participant;
-use ranking::runs::Measure;
+use ranking::participant::Participant;
+use ranking::runs::{Measure, highest_rates};
 
-// As many bytes as the lists may take.
+/// As many bytes as the lists may take.
 pub const LIST_ROOM: usize = 8192;
 
-// The measure, and a comma.
-fn put_measure(buffer: &mut [u8], at: usize, measure: Measure) -> usize
-    ensures { Put buffer.old at (measure_text (measure_of measure)) result buffer.new }
+/// The measure, and a comma.
+fn push_measure<const N: usize>(page: &mut Page<N>, measure: Measure)
+    requires { length page.old.items + length (measure_text measure) ≤ N }
+    ensures { page.new.items ≡ page.old.items ++ measure_text measure }
 {
     match measure {
-        Measure::Number => put_bytes(buffer, at, b"number,"),
-        Measure::Value => put_bytes(buffer, at, b"value,"),
+        Measure::Number => push(page, b"number,"),
+        Measure::Value => push(page, b"value,"),
     }
 }
 
-// The line of a participant.
-fn put_participant(
-    buffer: &mut [u8],
-    at: usize,
+/// The line of a participant.
+#[tactic(auto, using(crate::proofs::Joined::two_parts))]
+fn push_participant<const N: usize>(page: &mut Page<N>, measure: Measure, participant: Participant)
+    requires { length page.old.items + length (participant_line measure participant) ≤ N }
+    ensures { page.new.items ≡ page.old.items ++ participant_line measure participant }
+{
+    push_measure(page, measure);
+    push_numbers(
+        page,
+        &[participant.code, participant.fails, participant.total],
+        b'\n',
+    );
+}
+
+/// A line for each of a list.
+fn push_list<const N: usize>(page: &mut Page<N>, measure: Measure, list: &[Participant])
+    requires { length page.old.items + length (flat_map (participant_line measure) list.now) ≤ N }
+    ensures { page.new.items ≡ page.old.items ++ flat_map (participant_line measure) list.now }
+{
+    for participant in list {
+        push_participant(page, measure, *participant);
+    }
+}
+
+/// The lines of a list; where it is refused there is none.
+fn push_highest<const N: usize>(
+    page: &mut Page<N>,
+    book: &Book,
+    first: u64,
+    last: u64,
     measure: Measure,
-    participant: Participant,
-) -> usize
-    ensures { Put buffer.old at (participant_line (measure_of measure) participant) result buffer.new }
+)
+    requires { length page.old.items + length (list_lines first last book.now measure) ≤ N }
+    ensures { page.new.items ≡ page.old.items ++ list_lines first last book.now measure }
 {
-    let behind_measure = put_measure(buffer, at, measure);
-    let fields = [participant.code, participant.fails, participant.total];
-    put_line(buffer, behind_measure, &fields)
-}
-
-// A line for each of a list.
-fn put_list(buffer: &mut [u8], at: usize, measure: Measure, list: Listed) -> usize
-    requires { list.count ≤ largest_code }
-    ensures { Put buffer.old at (place_lines (measure_of measure) list) result buffer.new }
-{
-    let count = list.count;
-    let mut end = place_within(at, buffer.len());
-    let mut i: usize = 0;
-    while i < count {
-        let participant = list.participants[i];
-        end = put_participant(buffer, end, measure, participant);
-        i += 1;
+    if let Ok(list) = highest_rates(book, first, last, measure) {
+        push_list(page, measure, &list);
     }
-    end
 }
 
-// The names line and both lists over a run of days, or that it is refused.
-fn put_run(buffer: &mut [u8], at: usize, book: Book, first: u64, last: u64) -> usize
-    ensures { Put buffer.old at (lists_over book first last) result buffer.new }
+/// The names line, and both lists over a run of days, or that it is refused.
+fn push_run<const N: usize>(page: &mut Page<N>, book: &Book, first: u64, last: u64)
+    requires { length page.old.items + length (lists_over first last book.now) ≤ N }
+    ensures { page.new.items ≡ page.old.items ++ lists_over first last book.now }
 {
-    let behind_names = put_bytes(buffer, at, b"measure,code,fails,total\n");
-    let by_number = highest_rates(book, first, last, Measure::Number);
-    let answer = by_number.answer;
-    match answer {
-        Answer::Accepted => {
-            let by_value = highest_rates(book, first, last, Measure::Value);
-            let behind_number = put_list(buffer, behind_names, Measure::Number, by_number.list);
-            put_list(buffer, behind_number, Measure::Value, by_value.list)
+    push(page, b"measure,code,fails,total\n");
+    match highest_rates(book, first, last, Measure::Number) {
+        Ok(by_number) => {
+            push_list(page, Measure::Number, &by_number);
+            push_highest(page, book, first, last, Measure::Value);
         }
-        Answer::Refused(refusal) => put_refused(buffer, behind_names, refusal),
+        Err(refusal) => push_refused(page, refusal),
     }
 }
 
-// The lists of a file that was replayed.
-fn put_lists(buffer: &mut [u8], at: usize, replay: ReplayedFile, days: Days) -> usize
-    ensures { Put buffer.old at (list_table_of (replayed_by replay) days) result buffer.new }
+/// The lists of a file that was replayed.
+// As `push_reports` but for the text.
+fn push_lists(page: &mut Page<LIST_ROOM>, replayed: &Replayed, days: Days)
+    requires { page.old.items ≡ [] }
+    ensures { page.new.items ≡ lists_of days replayed.now }
 {
-    let answer = replay.answer;
-    match answer {
-        Answer::Accepted => {
-            let book = replay.book;
-            let run = days.run(book.today);
-            put_run(buffer, at, book, run.first, run.last)
-        }
-        Answer::Refused(_) => put_fault(buffer, at),
-    }
+    let (first, last) = days.run(replayed.book.today);
+    push_run(page, &replayed.book, first, last);
 }
 
-// The lists of a file, at the buffer's start; the count of their bytes comes back.
-pub fn list_table(text: &[u8], days: Days, buffer: &mut [u8; LIST_ROOM]) -> usize
-    ensures written { written_by result buffer.new ≡ whole (list_text text.now days) buffer.old }
-    ensures counted { Counted result buffer.new }
+/// The lists of a file.
+// As `write_table` but for the text.
+pub fn write_lists(file: &[u8], days: Days, page: &mut Page<LIST_ROOM>)
+    ensures { IsTextOf (lists days) file.now page.new.items }
 {
-    put_lists(buffer, 0, replay(text), days)
+    page.clear();
+    match replay(file) {
+        Ok(replayed) => push_lists(page, &replayed, days),
+        Err(_) => push(page, FAULT),
+    }
 }

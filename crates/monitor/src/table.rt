@@ -1,82 +1,70 @@
-// The table of a call file. Document 01, 'The calls as text'.
-ghost use Rattle.std.specs.Prelude.{◌≡◌};
-ghost use Rattle.lines.specs.Writing.{Put};
-ghost use Rattle.book.specs.Limits.{day_limit};
-ghost use Rattle.monitor.specs.Replay.{replayed_by};
-ghost use Rattle.monitor.specs.Texts.{written_by, whole, Counted, lines_from};
-ghost use Rattle.monitor.specs.Table.{day_line, count_lines, table_of, table_text};
+//! The table of a call file: a line for each closed day.
 
-use crate::fault::put_fault;
-use crate::replay::{ReplayedFile, replay};
+ghost use Rattle.std.specs.Prelude.{◌≡◌, ◌+◌, ◌≤◌, ◌++◌, length};
+ghost use Rattle.std.specs.List.{flat_map};
+ghost use Rattle.monitor.specs.Texts.{IsTextOf};
+ghost use Rattle.monitor.specs.Table.{day_line, closed_days, counts, table_of, table};
+
+use crate::page::{FAULT, Page, push, push_numbers};
+use crate::replay::{Replayed, replay};
+use crate::row_text::push_row;
 use book::book::Book;
-use book::calls::Answer;
 use book::limits::DAYS;
-use book::rows::RowAnswer;
-use lines::writing::{place_within, put_bytes, put_line};
-use reports::text::row_fields;
 
-// As many bytes as a table may take.
+/// As many bytes as a table may take.
 pub const TABLE_ROOM: usize = 8192;
 
-// The line of a day over all categories; a day that is not closed has none.
-fn put_day(buffer: &mut [u8], at: usize, book: Book, day: u64) -> usize
-    ensures { Put buffer.old at (day_line book day) result buffer.new }
+/// The line of a day over all categories; a day that isn't closed has none.
+fn push_day<const N: usize>(page: &mut Page<N>, book: &Book, day: u64)
+    requires { length page.old.items + length (day_line book.now day) ≤ N }
+    ensures { page.new.items ≡ page.old.items ++ day_line book.now day }
 {
-    let answer = book.row(day, 0);
-    match answer {
-        RowAnswer::Figures(row) => {
-            let fields = row_fields(day, row);
-            put_line(buffer, at, &fields)
-        }
-        RowAnswer::Refused(_) => place_within(at, buffer.len()),
+    if let Ok(row) = book.row(day, 0) {
+        push_row(page, day, row);
     }
 }
 
-// A line for each closed day.
-fn put_days(buffer: &mut [u8], at: usize, book: Book) -> usize
-    ensures { Put buffer.old at (lines_from (day_line book) 0 day_limit) result buffer.new }
+/// A line for each closed day.
+fn push_days<const N: usize>(page: &mut Page<N>, book: &Book)
+    requires { length page.old.items + length (flat_map (day_line book.now) (closed_days book.now)) ≤ N }
+    ensures { page.new.items ≡ page.old.items ++ flat_map (day_line book.now) (closed_days book.now) }
 {
-    let mut end = place_within(at, buffer.len());
-    let mut day: u64 = 0;
-    while day < DAYS {
-        end = put_day(buffer, end, book, day);
-        day += 1;
-    }
-    end
-}
-
-// Accepted and refused counts.
-fn put_counts(buffer: &mut [u8], at: usize, accepted: u64, refused: u64) -> usize
-    ensures { Put buffer.old at (count_lines accepted refused) result buffer.new }
-{
-    let end = put_bytes(buffer, at, b"accepted,refused\n");
-    put_line(buffer, end, &[accepted, refused])
-}
-
-// The table of a file that was replayed.
-fn put_table(buffer: &mut [u8], at: usize, replay: ReplayedFile) -> usize
-    ensures { Put buffer.old at (table_of (replayed_by replay)) result buffer.new }
-{
-    let answer = replay.answer;
-    match answer {
-        Answer::Accepted => {
-            let book = replay.book;
-            let behind_names = put_bytes(
-                buffer,
-                at,
-                b"day,total_n,settled_n,sec_n,cash_n,total_v,settled_v,sec_v,cash_v,isd_v\n",
-            );
-            let behind_days = put_days(buffer, behind_names, book);
-            put_counts(buffer, behind_days, replay.accepted, replay.refused)
-        }
-        Answer::Refused(_) => put_fault(buffer, at),
+    for day in 0..book.today.min(DAYS) {
+        push_day(page, book, day);
     }
 }
 
-// The table of a file, at the buffer's start; the count of its bytes comes back.
-pub fn table(text: &[u8], buffer: &mut [u8; TABLE_ROOM]) -> usize
-    ensures written { written_by result buffer.new ≡ whole (table_text text.now) buffer.old }
-    ensures counted { Counted result buffer.new }
+/// Accepted and refused counts.
+#[tactic(auto, using(crate::proofs::Joined::two_parts))]
+fn push_counts<const N: usize>(page: &mut Page<N>, accepted: u64, refused: u64)
+    requires { length page.old.items + length (counts accepted refused) ≤ N }
+    ensures { page.new.items ≡ page.old.items ++ counts accepted refused }
 {
-    put_table(buffer, 0, replay(text))
+    push(page, b"accepted,refused\n");
+    push_numbers(page, &[accepted, refused], b'\n');
+}
+
+/// The table of a file that was replayed.
+fn push_table<const N: usize>(page: &mut Page<N>, replayed: &Replayed)
+    requires { length page.old.items + length (table_of replayed.now) ≤ N }
+    ensures { page.new.items ≡ page.old.items ++ table_of replayed.now }
+{
+    push(
+        page,
+        b"day,total_n,settled_n,sec_n,cash_n,total_v,settled_v,sec_v,cash_v,isd_v\n",
+    );
+    push_days(page, &replayed.book);
+    push_counts(page, replayed.accepted, replayed.refused);
+}
+
+/// The table of a file.
+// `write_reports`, `write_lists` and `write_answers` are alike but for the text that they write: one body for all is no plainer.
+pub fn write_table(file: &[u8], page: &mut Page<TABLE_ROOM>)
+    ensures { IsTextOf table file.now page.new.items }
+{
+    page.clear();
+    match replay(file) {
+        Ok(replayed) => push_table(page, &replayed),
+        Err(_) => push(page, FAULT),
+    }
 }

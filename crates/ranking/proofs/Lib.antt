@@ -1,4 +1,6 @@
-pub mod Theorems
-pub mod Functions
-pub mod AnswerValues
-pub mod Worked
+pub mod Order
+pub mod Counts
+pub mod Lists
+pub mod Insertion
+pub mod FirstRanks
+pub mod Sums

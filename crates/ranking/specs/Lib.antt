@@ -1,6 +1,5 @@
-pub mod Highest
-pub mod Meaning
+pub mod Ranking
 pub mod Runs
-pub mod Lists
+pub mod Meaning
 pub mod Worked
-pub mod Tests
+pub mod Ranks

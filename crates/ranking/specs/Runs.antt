@@ -1,47 +1,47 @@
--- The participants over a run of days, by number or by value. Document 02, card 2: 'each entry being code, fails and total in
--- that measure over the run'. Assumes nothing.
-use Rattle.std.specs.Prelude.{ℕ, zero, suc, List, [], ◌∷◌}
-use Rattle.book.specs.declared.book.Book.{Book}
-use Rattle.book.specs.declared.summaries.Summary.{Summary}
+-- The participants over a run of days, and when a list of them is given. docs/RULES.md, 'Highest fail rates'.
+use Rattle.std.specs.Prelude.{ℕ, not, List, [], ◌∷◌, map, Result, Ok, Err}
+use Rattle.std.specs.List.{range_with_len}
+use Rattle.arrayvec.specs.ArrayVec.{ArrayVec}
 use Rattle.book.specs.Limits.{largest_code}
-use Rattle.book.specs.History as history
-use Rattle.book.specs.Counted.{SummaryColumn, summary_total, summary_fails, summary_column}
-use Rattle.book.specs.Exact.{sum_from, summary_on}
-use Rattle.ranking.specs.Highest.{Participant}
-pub use Rattle.ranking.specs.declared.runs.Measure.{Measure}
+use Rattle.book.specs.Rules.{rule, first_of}
+use Rattle.book.specs.declared.book.Book.{Book}
+use Rattle.book.specs.declared.calls.Refusal.{Refusal}
+use Rattle.book.specs.declared.calls.Refusal.TheVariants.{NotClosed}
+use Rattle.book.specs.declared.figures.Summary.{Summary}
+use Rattle.history.specs.Sums as history
+use Rattle.history.specs.Sums.{in_measure}
+use Rattle.counted.specs.Counted.{summary_at}
+use Rattle.reports.specs.Sums.{days, figure_over}
+use Rattle.reports.specs.Reports.{is_run}
+use Rattle.ranking.specs.declared.participant.Participant.{Participant}
+use Rattle.ranking.specs.declared.runs.Measure.{Measure}
+use Rattle.ranking.specs.declared.runs.Measure.TheVariants.{Number, Value}
+use Rattle.ranking.specs.Ranking.{highest}
 
 -- the measure that the code's stands for
 abbrev pub measure_of : Measure → history.Measure
-measure_of Measure.Number = history.number
-measure_of Measure.Value = history.value
+measure_of Number = history.number
+measure_of Value = history.value
 
--- a participant by a measure of its summary
-abbrev pub participant_of : history.Measure → ℕ → Summary → Participant
-participant_of m code s = record {
-  code = code;
-  fails = summary_column (summary_fails m) s;
-  total = summary_column (summary_total m) s;
+-- the sums of summaries
+unfoldable pub summaries_over : List Summary → Summary
+summaries_over summaries = record {
+  total = figure_over (λ (s : Summary). s.total) summaries;
+  fails = figure_over (λ (s : Summary). s.fails) summaries;
 }
 
-module _ {A : Type 0} where
-  -- one for each of n numbers from the first on
-  unfoldable pub each_from : (ℕ → A) → ℕ → ℕ → List A
-  each_from f first zero = []
-  each_from f first (suc n) = f first ∷ each_from f (suc first) n
+-- a participant over a run of days: its fails and total in that measure
+abbrev pub participant_of : ℕ → ℕ → Measure → Book → ℕ → Participant
+participant_of first last m b code =
+    let sums = summaries_over (map (λ day. summary_at b.summaries day code) (days first last)) in
+    record { code = code; fails = in_measure (measure_of m) sums.fails; total = in_measure (measure_of m) sums.total }
 
--- the participant with that code over so many days from the first on: `on` gives each of its figures on each day, and `kept`
--- says how a sum is kept
-abbrev pub participant_by : (ℕ → ℕ) → (SummaryColumn → ℕ → ℕ → ℕ) → history.Measure → ℕ → ℕ → ℕ → Participant
-participant_by kept on m first days code = record {
-  code = code;
-  fails = kept (sum_from (on (summary_fails m) code) first days);
-  total = kept (sum_from (on (summary_total m) code) first days);
-}
+-- those with codes 1 to 40
+unfoldable pub participants_of : ℕ → ℕ → Measure → Book → List Participant
+participants_of first last m b = map (participant_of first last m b) (range_with_len 1 largest_code)
 
--- the participants with codes 1 to 40
-abbrev pub participants_by : (ℕ → ℕ) → (SummaryColumn → ℕ → ℕ → ℕ) → history.Measure → ℕ → ℕ → List Participant
-participants_by kept on m first days = each_from (participant_by kept on m first days) 1 largest_code
-
--- those of a book, by its summaries
-abbrev pub participants_over : (ℕ → ℕ) → history.Measure → Book → ℕ → ℕ → List Participant
-participants_over kept m b first days = participants_by kept (λ figure. summary_on figure b) m first days
+-- From first to last closed day: number 9 holds as for a report.
+abbrev pub list_answer : ℕ → ℕ → Measure → Book → Result (ArrayVec Participant) Refusal
+list_answer first last m b = first_of (
+    rule (not (is_run first last b)) (Err NotClosed)
+    ∷ []) (Ok (record { items = highest (participants_of first last m b) }))

@@ -1,7 +1,29 @@
-// The participants with the highest fail rates. Document 02, card 2.
+//! The participants with the highest fail rates. docs/RULES.md, 'Highest fail rates'.
 #![tactic(auto)]
 
-pub mod participants; // a participant with its fails and total, and which of two is listed first
-pub mod highest; // the list: ten, and everyone level with the tenth
-pub mod runs; // the participants over a run of days, by number or by value
-pub mod lists; // the list over a run of days, and how it is given
+ghost use Rattle.ranking.specs.Meaning.{WhoIsListed, EachOnce, InWhichOrder, HowManyAtMost, OneListOf, CodesRise};
+ghost use Rattle.ranking.specs.Worked.{WorkedLists, WorkedRuns};
+
+pub mod participant;
+pub mod ranks;
+pub mod runs;
+
+/// What a list is, of any participants with distinct codes.
+pub fn lists_mean()
+    ensures who { WhoIsListed }
+    ensures once { EachOnce }
+    ensures order { InWhichOrder }
+    ensures most { HowManyAtMost }
+    ensures only { OneListOf }
+{}
+
+/// The participants of a run of days have distinct codes.
+pub fn codes_rise()
+    ensures { CodesRise }
+{}
+
+/// The lists worked by hand are what the definitions give.
+pub fn worked_lists_hold()
+    ensures lists { WorkedLists }
+    ensures runs { WorkedRuns }
+{}

@@ -1,65 +1,91 @@
-// The participants over a run of days: their summaries added up. Document 02, card 2.
-ghost use Rattle.std.specs.Prelude.{◌≡◌, ◌-◌, ◌≤◌};
-ghost use Rattle.rates.specs.Stored.{capped};
-ghost use Rattle.ranking.specs.Runs.{measure_of, participant_of, participants_over};
+//! The participants over a run of days, and the list of the highest rates among them. docs/RULES.md, 'Highest fail rates'.
+ghost use Rattle.std.specs.Prelude.{◌≡◌, ◌<◌, ◌≤◌, map};
+ghost use Rattle.book.specs.Limits.{day_limit, largest_code};
+ghost use Rattle.history.specs.Sums.{in_measure};
+ghost use Rattle.counted.specs.Counted.{summary_at};
+ghost use Rattle.reports.specs.Sums.{days};
+ghost use Rattle.ranking.specs.Runs.{measure_of, summaries_over, participant_of, participants_of, list_answer};
 
-use crate::participants::{NOBODY, PARTICIPANTS, Participant};
+use crate::participant::Participant;
+use crate::ranks::{List, PARTICIPANTS, highest};
 use book::book::Book;
-use book::summaries::{Summary, summary_place};
+use book::calls::Refusal;
+use book::figures::{Figure, Summary, summary_place};
+use book::limits::SUMMARIES;
+use reports::report::is_run;
 
-// The measure of a rate: so many SIs, or their value.
-#[derive(Clone, Copy)]
+/// What is compared of fails and totals.
+#[derive(Clone, Copy, Debug, PartialEq, Eq)]
 pub enum Measure {
+    /// So many SIs.
     Number,
+    /// Cents.
     Value,
 }
 
-impl Participant {
-    // A participant with that code, by a measure of its summary.
-    fn of(measure: Measure, code: u64, sum: Summary) -> Participant
-        ensures { result ≡ participant_of (measure_of measure) code sum }
+impl Measure {
+    /// A figure in this measure.
+    fn of(self, figure: Figure) -> u64
+        ensures { result ≡ in_measure (measure_of self) figure }
     {
-        match measure {
-            Measure::Number => Participant {
-                code: code,
-                fails: sum.fails.number,
-                total: sum.total.number,
-            },
-            Measure::Value => Participant {
-                code: code,
-                fails: sum.fails.value,
-                total: sum.total.value,
-            },
+        match self {
+            Measure::Number => figure.number,
+            Measure::Value => figure.value,
         }
     }
 }
 
-// All participants, from day `first` on and before day `end`. The loops are nested, since a function that took the book for
-// each participant would cost a copy of it.
-pub(crate) fn participants(
-    book: Book,
-    first: u64,
-    end: u64,
-    measure: Measure,
-) -> [Participant; PARTICIPANTS]
-    requires { first ≤ end }
-    ensures { result ≡ participants_over capped (measure_of measure) book first (end - first) }
+/// The summaries of a participant, 1 to 40, over a run of days, added up.
+fn sums(summaries: &[Summary; SUMMARIES], first: u64, last: u64, code: u8) -> Summary
+    requires days { first ≤ last }
+    requires last { last < day_limit }
+    requires low { 1 ≤ code }
+    requires high { code ≤ largest_code }
+    ensures { result ≡ summaries_over (map (λ day. summary_at summaries.now day code) (days first last)) }
 {
-    let mut all = [NOBODY; PARTICIPANTS];
-    let mut i: usize = 0;
-    while i < PARTICIPANTS {
-        let code = i as u64 + 1;
-        let mut sum = Summary::none();
-        let mut day = end;
-        while first < day {
-            day -= 1;
-            let at = summary_place(day, code);
-            let summary = book.summaries[at];
-            let next = summary.add(sum);
-            sum = next;
-        }
-        all[i] = Participant::of(measure, code, sum);
-        i += 1;
+    let mut sums = Summary::NONE;
+    for day in first..last + 1 {
+        sums = sums.saturating_add(summaries[summary_place(day, u64::from(code))]);
+    }
+    sums
+}
+
+/// The participant of that code over a run of days.
+fn participant(book: &Book, first: u64, last: u64, measure: Measure, code: u8) -> Participant
+    requires days { first ≤ last }
+    requires last { last < day_limit }
+    requires low { 1 ≤ code }
+    requires high { code ≤ largest_code }
+    ensures { result ≡ participant_of first last measure book.now code }
+{
+    let Summary { total, fails } = sums(&book.summaries, first, last, code);
+    Participant {
+        code: u64::from(code),
+        fails: measure.of(fails),
+        total: measure.of(total),
+    }
+}
+
+/// All of them.
+fn participants(book: &Book, first: u64, last: u64, measure: Measure) -> [Participant; PARTICIPANTS]
+    requires days { first ≤ last }
+    requires last { last < day_limit }
+    ensures { result ≡ participants_of first last measure book.now }
+{
+    let mut all = [Participant::default(); PARTICIPANTS];
+    for place in 0..PARTICIPANTS {
+        all[place] = participant(book, first, last, measure, place as u8 + 1);
     }
     all
+}
+
+/// The ten participants with the highest fail rates, and everyone level with the tenth, from the first to the last day, both
+/// included: the highest rate first, and of equal rates the lower code. Number 9 as for a report, whose way it is to name the two days.
+pub fn highest_rates(book: &Book, first: u64, last: u64, measure: Measure) -> Result<List, Refusal>
+    ensures { result ≡ list_answer first last measure book.now }
+{
+    if !is_run(book, first, last) {
+        return Err(Refusal::NotClosed);
+    }
+    Ok(highest(&participants(book, first, last, measure)))
 }

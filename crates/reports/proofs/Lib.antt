@@ -1,4 +1,2 @@
-pub mod Theorems
-pub mod Functions
-pub mod AnswerValues
-pub mod Examples
+pub mod Steps
+pub mod Meaning

@@ -1,7 +1,5 @@
+pub mod Sums
 pub mod Reports
-pub mod OfRows
-pub mod Plain
 pub mod Nine
-pub mod RowText
+pub mod OfRows
 pub mod Examples
-pub mod CellSums

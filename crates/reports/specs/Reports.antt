@@ -1,110 +1,45 @@
--- A report over a run of days: the sums of its rows, its rates and its duration, and how it is given. Document 01, 'A
--- report' and 'Numbers given back'. Assumes nothing.
-use Rattle.std.specs.Prelude.{ℕ, suc, ◌+◌, ◌-◌, Bool, cond, not, ◌||◌, leb, ltb}
-use Rattle.std.proofs.Math.Option.{Option, map}
+-- A report: the sums of the rows of a run of days, its fail rates and its average duration, and when it is given. docs/RULES.md, 'A report'.
+use Rattle.std.specs.Prelude.{ℕ, Bool, not, ◌&&◌, nat_le, nat_lt, option_map, List, [], ◌∷◌, map, Result, Ok, Err}
 use Rattle.rates.specs.Stored.{capped}
-use Rattle.rates.specs.Rate.{rate, duration, hundredths_of}
-use Rattle.book.specs.declared.cells.Figure.{Figure}
+use Rattle.rates.specs.Rate.{rate, duration}
 use Rattle.book.specs.declared.book.Book.{Book}
+use Rattle.book.specs.declared.calls.Refusal.{Refusal}
+use Rattle.book.specs.declared.calls.Refusal.TheVariants.{OutOfRange, NotClosed}
 use Rattle.book.specs.declared.rows.Row.{Row}
 use Rattle.book.specs.Limits.{category_count}
-use Rattle.book.specs.Answers.{refusal_number}
-use Rattle.book.specs.Rows.{row_of, Given, refused_by, figures, is_past}
-use Rattle.book.specs.History.{Measure, number, value}
-use Rattle.book.specs.Balance.{in_measure}
-use Rattle.book.specs.Exact.{sum_from}
-pub use Rattle.reports.specs.declared.reports.Report.{Report}
-pub use Rattle.reports.specs.declared.reports.ReportAnswer.{ReportAnswer}
+use Rattle.book.specs.Rules.{rule, first_of}
+use Rattle.book.specs.Figures.{add_figure}
+use Rattle.book.specs.Rows.{row_of, figures_of, is_closed}
+use Rattle.reports.specs.declared.report.Report.{Report}
+use Rattle.reports.specs.Sums.{days, sums_of}
 
--- what a report says: the sums of the rows; fail rate by number and by value; average duration
-pub record Reported : Type 0 where
-  pub sums : Row
-  pub rate_by_number : ℕ
-  pub rate_by_value : ℕ
-  pub duration : Option ℕ
+-- The fail rate is the fails, securities and cash together, to the total, by number and by value. The duration is the sum of
+-- fail values divided by the sum of ISD values.
+abbrev pub report_of : Row → Report
+report_of sums =
+    let fails = add_figure sums.securities sums.cash in
+    record {
+      sums = sums;
+      rate_by_number = capped (rate fails.number sums.total.number);
+      rate_by_value = capped (rate fails.value sums.total.value);
+      duration = option_map capped (duration fails.value sums.isd_value);
+    }
 
--- a number as it is; `capped` is a number as it is stored
-abbrev pub plain : ℕ → ℕ
-plain n = n
+-- the row of a day and a category, 0 for all nine together, of any book
+abbrev pub row_on : ℕ → Book → ℕ → Row
+row_on category b day = row_of (figures_of b.cells day category)
 
--- ---- the figures
+-- those of a run of days
+abbrev pub rows_of : ℕ → ℕ → ℕ → Book → List Row
+rows_of first last category b = map (row_on category b) (days first last)
 
--- Each number is kept by `kept`: as it is stored, for any book value, or as it is.
-module _ (kept : ℕ → ℕ) where
-  -- a figure, added up over so many days from the first on
-  abbrev pub sum_of : (ℕ → Figure) → ℕ → ℕ → Figure
-  sum_of f first days = record {
-    number = kept (sum_from (λ day. (f day).number) first days);
-    value = kept (sum_from (λ day. (f day).value) first days);
-  }
+-- from first to last closed day
+abbrev pub is_run : ℕ → ℕ → Book → Bool
+is_run first last b = nat_le first last && is_closed last b
 
-  -- the sums of the rows
-  unfoldable pub sums_of : (ℕ → Row) → ℕ → ℕ → Row
-  sums_of rows first days = record {
-    total = sum_of (λ day. (rows day).total) first days;
-    settled = sum_of (λ day. (rows day).settled) first days;
-    securities = sum_of (λ day. (rows day).securities) first days;
-    cash = sum_of (λ day. (rows day).cash) first days;
-    isd_value = kept (sum_from (λ day. (rows day).isd_value) first days);
-  }
-
-  -- securities and cash fails together
-  abbrev pub fails_in : Measure → Row → ℕ
-  fails_in m sums = kept (in_measure m sums.securities + in_measure m sums.cash)
-
-  -- the fail rate by number or by value, of the sums
-  abbrev pub rate_in : Measure → Row → ℕ
-  rate_in m sums = kept (rate (fails_in m sums) (in_measure m sums.total))
-
-  -- The duration is the sum of fail values over the days divided by the sum of ISD values.
-  abbrev pub duration_in : Row → Option ℕ
-  duration_in sums = map kept (duration (fails_in value sums) sums.isd_value)
-
-  -- the report of rows with these sums
-  unfoldable pub report_from : Row → Reported
-  report_from sums = record {
-    sums = sums;
-    rate_by_number = rate_in number sums;
-    rate_by_value = rate_in value sums;
-    duration = duration_in sums;
-  }
-
-  -- the report of a run of rows, from the first to the last
-  abbrev pub report_of : (ℕ → Row) → ℕ → ℕ → Reported
-  report_of rows first last = report_from (sums_of rows first (suc last - first))
-
--- ---- what comes back
-
--- what a report of the code says
-abbrev pub reported_by : Report → Reported
-reported_by r = record {
-  sums = r.sums;
-  rate_by_number = r.rate_by_number;
-  rate_by_value = r.rate_by_value;
-  duration = hundredths_of r.duration;
-}
-
--- the number or the figures that an answer stands for
-abbrev pub report_given_by : ReportAnswer → Given Reported
-report_given_by (ReportAnswer.Figures r) = figures (reported_by r)
-report_given_by (ReportAnswer.Refused r) = refused_by (refusal_number r)
-
--- the rows of a category, day by day
-abbrev pub rows_of : Book → ℕ → ℕ → Row
-rows_of b category day = row_of b day category
-
--- 9: first after last, or last not closed
-abbrev pub run_refused : ℕ → ℕ → ℕ → Bool
-run_refused today first last = ltb last first || not (is_past today last)
-
--- the same, by the book's today
-abbrev pub days_refused : Book → ℕ → ℕ → Bool
-days_refused b first last = run_refused b.today first last
-
--- From first to last closed day, for category 0 (all) or 1 to 9: category over 9 is 2, first after last or last not
--- closed 9.
-unfoldable pub report_answer : Book → ℕ → ℕ → ℕ → Given Reported
-report_answer b first last category =
-    cond (not (leb category category_count)) (refused_by 2)
-    (cond (days_refused b first last) (refused_by 9)
-    (figures (report_of capped (rows_of b category) first last)))
+-- A report is given for category 0 to 9 and a run of closed days: category over 9 is 2, first after last or last not closed 9.
+abbrev pub report_answer : ℕ → ℕ → ℕ → Book → Result Report Refusal
+report_answer first last category b = first_of (
+    rule (nat_lt category_count category) (Err OutOfRange)
+    ∷ rule (not (is_run first last b)) (Err NotClosed)
+    ∷ []) (Ok (report_of (sums_of (rows_of first last category b))))

@@ -1,65 +1,56 @@
-// The reports of all nine categories in one call. Document 01, 'A report' and 'Numbers given back'.
-ghost use Rattle.std.specs.Prelude.{◌≡◌, map};
-ghost use Rattle.reports.specs.Reports.{reported_by, report_given_by};
-ghost use Rattle.reports.specs.Nine.{no_report, numbered, numbered_by, nine_answer};
+//! The reports of all nine categories in one call. docs/RULES.md, 'A report'.
+ghost use Rattle.std.specs.Prelude.{◌≡◌, ◌<◌};
+ghost use Rattle.book.specs.Limits.{category_count};
+ghost use Rattle.reports.specs.Nine.{numbered, one_of_nine, nine_answer};
 
-use crate::reports::{Report, ReportAnswer, single_report};
+use crate::report::{Report, single_report};
 use book::book::Book;
 use book::calls::{Answer, Refusal};
-use book::cells::Cell;
 use book::limits::CATEGORIES;
-use rates::Duration;
+use std::array;
 
-// The nine categories, as the length of an array.
+/// The nine categories, as the length of an array.
 pub const NINE: usize = CATEGORIES as usize;
 
-// A category's report among the nine: the number that came back stands beside its figures.
-#[derive(Clone, Copy)]
+/// A category's report among the nine, and beside it what came back.
+#[derive(Clone, Copy, Debug, PartialEq, Eq)]
 pub struct NumberedReport {
     pub answer: Answer,
+    /// Where it is refused, each figure is 0 and the duration absent.
     pub report: Report,
 }
 
-// Refused, the figures stand as 0 and the duration is absent.
-fn no_report() -> Report
-    ensures { reported_by result ≡ no_report }
-{
-    Report {
-        sums: Cell::none().row(),
-        rate_by_number: 0,
-        rate_by_value: 0,
-        duration: Duration::Absent,
+impl NumberedReport {
+    /// What came back as one of the nine.
+    fn of(report: Result<Report, Refusal>) -> NumberedReport
+        ensures { result ≡ numbered report }
+    {
+        match report {
+            Ok(report) => NumberedReport {
+                answer: Ok(()),
+                report,
+            },
+            Err(refusal) => NumberedReport {
+                answer: Err(refusal),
+                report: Report::default(),
+            },
+        }
     }
 }
 
-// An answer as one of the nine.
-fn as_numbered(answer: ReportAnswer) -> NumberedReport
-    ensures { numbered_by result ≡ numbered (report_given_by answer) }
+/// The report at one of the nine places.
+#[tactic(auto, unfolding(crate::specs::Nine::one_of_nine))]
+fn one_of_nine(book: &Book, first: u64, last: u64, place: usize) -> NumberedReport
+    requires { place < category_count }
+    ensures { result ≡ one_of_nine first last book.now place }
 {
-    match answer {
-        ReportAnswer::Figures(report) => NumberedReport {
-            answer: Answer::Accepted,
-            report: report,
-        },
-        ReportAnswer::Refused(refusal) => NumberedReport {
-            answer: Answer::Refused(refusal),
-            report: no_report(),
-        },
-    }
+    NumberedReport::of(single_report(book, first, last, place as u64 + 1))
 }
 
-// The reports of categories 1 to 9, in their order, from the first to the last day, both included.
-pub fn nine_reports(book: Book, first: u64, last: u64) -> [NumberedReport; NINE]
-    ensures { map numbered_by result ≡ nine_answer book first last }
+/// The reports of categories 1 to 9, in their order, from the first to the last day, both included. The customer asked for
+/// an array by value of nine structs, so a refusal stands in each of them and not in place of the array.
+pub fn nine_reports(book: &Book, first: u64, last: u64) -> [NumberedReport; NINE]
+    ensures { result ≡ nine_answer first last book.now }
 {
-    // Each place is filled below.
-    let unfilled = as_numbered(ReportAnswer::Refused(Refusal::NotClosed));
-    let mut reports = [unfilled; NINE];
-    let mut i: usize = 0;
-    while i < NINE {
-        let answer = single_report(book, first, last, i as u64 + 1);
-        reports[i] = as_numbered(answer);
-        i += 1;
-    }
-    reports
+    array::from_fn(|place| one_of_nine(book, first, last, place))
 }

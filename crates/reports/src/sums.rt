@@ -1,57 +1,35 @@
-// The sums of the rows of a run of days. Cells are added up and not rows: a cell is read where it lies, so a report copies
-// the book once, and by rows it would do so for each day.
-ghost use Rattle.std.specs.Prelude.{◌≡◌, ◌-◌, ◌≤◌};
-ghost use Rattle.book.specs.Limits.{day_limit};
-ghost use Rattle.rates.specs.Stored.{capped};
-ghost use Rattle.reports.specs.Reports.{sums_of, rows_of};
-ghost use Rattle.reports.specs.CellSums.{category_sum, all_sum};
+//! The rows of a run of days, added up.
+ghost use Rattle.std.specs.Prelude.{◌≡◌, ◌≤◌, true, Ok};
+ghost use Rattle.book.specs.Limits.{category_count};
+ghost use Rattle.reports.specs.Sums.{add_row, sums_of};
+ghost use Rattle.reports.specs.Reports.{is_run, rows_of};
 
 use book::book::Book;
-use book::cells::{Cell, place};
-use book::limits::CATEGORIES;
+use book::calls::Refusal;
 use book::rows::Row;
 
-// The cells of a category from day `first` on and before day `end`, added up from the last one.
-fn category_sum(book: Book, first: u64, end: u64, category: u64) -> Cell
-    requires { first ≤ end }
-    ensures { result ≡ category_sum book.cells first (end - first) category }
+/// The sum of two rows, figure by figure.
+fn add(sums: Row, row: Row) -> Row
+    ensures { result ≡ add_row sums row }
 {
-    let mut sum = Cell::none();
-    let mut day = end;
-    while first < day {
-        day -= 1;
-        let at = place(day, category);
-        let cell = book.cells[at];
-        let next = cell.add(sum);
-        sum = next;
+    Row {
+        total: sums.total.saturating_add(row.total),
+        settled: sums.settled.saturating_add(row.settled),
+        securities: sums.securities.saturating_add(row.securities),
+        cash: sums.cash.saturating_add(row.cash),
+        isd_value: sums.isd_value.saturating_add(row.isd_value),
     }
-    sum
 }
 
-// The same of all nine categories together, whose cells lie side by side, nine to a day.
-fn all_sum(book: Book, first: u64, end: u64) -> Cell
-    requires { (first ≤ end) × (end ≤ day_limit) }
-    ensures { result ≡ all_sum book.cells first (end - first) }
+/// The sums of the rows of a run of closed days and a category, 0 for all nine together. Each of these rows is given.
+pub(crate) fn sums(book: &Book, first: u64, last: u64, category: u64) -> Result<Row, Refusal>
+    requires run { is_run first last book.now ≡ true }
+    requires category { category ≤ category_count }
+    ensures { result ≡ Ok (sums_of (rows_of first last category book.now)) }
 {
-    let start = (CATEGORIES * first) as usize;
-    let mut sum = Cell::none();
-    let mut at = (CATEGORIES * end) as usize;
-    while start < at {
-        at -= 1;
-        let cell = book.cells[at];
-        let next = cell.add(sum);
-        sum = next;
+    let mut sums = Row::default();
+    for day in first..last + 1 {
+        sums = add(sums, book.row(day, category)?);
     }
-    sum
-}
-
-// The sums of the rows of a category, 0 for all nine together, from day `first` on and before day `end`.
-pub(crate) fn sums_of(book: Book, first: u64, end: u64, category: u64) -> Row
-    requires { (first ≤ end) × (end ≤ day_limit) }
-    ensures { result ≡ sums_of capped (rows_of book category) first (end - first) }
-{
-    if category == 0 {
-        return all_sum(book, first, end).row();
-    }
-    category_sum(book, first, end, category).row()
+    Ok(sums)
 }

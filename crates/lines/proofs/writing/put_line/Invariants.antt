@@ -1,12 +1,7 @@
-use Prim.Native.Nat.{◌-◌}
-use lib.ListN.{length}
-use Rattle.lines.proofs.Functions.Putting.{PutUpTo}
+use Rattle.std.proofs.Common.{take}
+use Rattle.lines.specs.Written.{IsPut}
+use Rattle.lines.proofs.Buffers.{with_commas}
 use Rattle.lines.proofs.writing.put_line.Given as goal
 
--- the fields in front of `i` are put
-abbrev pub invariant-loop-i : goal.invariant-loop-i
-invariant-loop-i l = PutUpTo l.initial.buffer l.at l.fields l.i l.end l.buffer
-
--- how many fields are left
-abbrev pub decreases-loop-i : goal.decreases-loop-i
-decreases-loop-i l = length l.fields - l.i
+abbrev pub invariant-loop-number : goal.invariant-loop-number
+invariant-loop-number l = IsPut l.fn.buffer l.fn.at (with_commas (take l.number-index l.others)) l.end l.buffer

@@ -1,25 +1,41 @@
--- `replay` meets its contract: none of a faulty file's lines is read, and those of any other by `replay_lines`. Either way
--- the book is that of the file's calls, and so has its balance. Assumes nothing.
-use mathlib.Core.Path.{sym, ◌∙◌}
-use Rattle.book.specs.declared.calls.Answer.{Answer}
-use Rattle.book.specs.declared.calls.Refusal.{Refusal}
-use Rattle.monitor.proofs.Functions.Replaying.{replay_faulty, with_balance}
+use Rattle.std.proofs.Common.{arith, rules, [], ap}
+use Rattle.monitor.proofs.Made
+use Rattle.monitor.proofs.Made.{short_rest}
+use Rattle.monitor.proofs.Replays.{counted_more, replays, balances_for}
 use Rattle.monitor.proofs.replay.replay.Goals as goal
 
--- the file is faulty
-pub returns-then-is_faulty : goal.returns-then-is_faulty
-returns-then-is_faulty c =
-    let faulty = sym c.is_faulty.ensures ∙ c.if-is_faulty.true in
-    let answer = Answer.Refused Refusal.FaultyFile in
-    let r = with_balance _ (record { book = c.fresh.result; accepted = 0; refused = 0; answer = answer })
-    (rw c.fresh.ensures (replay_faulty _ faulty)) in
-    record { replays = r.0; balances = r.1 }
+pub loop-line-init : goal.loop-line-init
+loop-line-init c = record {
+  can_next = tt;
+  is_finite = tt;
+  counts = record {
+    rest = c.in_ok-lines.lines.text.now;
+    sound = c.in_ok-lines.ensures.sound;
+    made = [];
+    stands = Made.at_start _ _ _ (short_rest _ _ c.in_ok-lines.ensures.sound) (search rules) (search rules) (search rules);
+    are_accepted = search rules;
+    are_refused = search rules;
+  };
+}
 
--- it is not
-pub replay_lines-requires : goal.replay_lines-requires
-replay_lines-requires c = sym c.is_faulty.ensures ∙ c.if-is_faulty.false
+pub loop-line-preserved-then-is_accepted : goal.loop-line-preserved-then-is_accepted
+loop-line-preserved-then-is_accepted c = record {
+  can_next = tt;
+  is_finite = tt;
+  counts = counted_more _ _ _ _ _ _ _ _ _ _ _ _ c.loop-line.invariant.counts c.in-Some.ensures.steps c.make.ensures.answer c.make.ensures.book c.if-is_accepted.ensures (omega arith) (omega arith);
+}
 
-pub returns : goal.returns
-returns c =
-    let r = with_balance _ c.replay_lines.result c.replay_lines.ensures in
-    record { replays = r.0; balances = r.1 }
+pub loop-line-preserved : goal.loop-line-preserved
+loop-line-preserved c = record {
+  can_next = tt;
+  is_finite = tt;
+  counts = counted_more _ _ _ _ _ _ _ _ _ _ _ _ c.loop-line.invariant.counts c.in-Some.ensures.steps c.make.ensures.answer c.make.ensures.book c.if-is_accepted.ensures (omega arith) (omega arith);
+}
+
+pub returns-clause-replays : goal.returns-clause-replays
+returns-clause-replays c = replays _ _ _ _ _ c.loop-line.invariant.counts c.in-None.ensures.steps.0
+
+pub returns-clause-balances : goal.returns-clause-balances
+returns-clause-balances c =
+    let made = replays _ _ _ _ _ c.loop-line.invariant.counts c.in-None.ensures.steps.0 in
+    balances_for _ _ made.0 made.1 (ap (λ r. r.book) made.2)

@@ -1,0 +1,6 @@
+use Rattle.std.proofs.Common.{rules, take, length}
+use Rattle.console.proofs.Whole.{of_known}
+use Rattle.console.proofs.streams.write_text.Goals as goal
+
+pub returns-clause-written : goal.returns-clause-written
+returns-clause-written g c = of_known c.args.asked _ _ _ (take c.in-Ok.count c.read_all.new.buffer) (length c.read_all.new.buffer) (search rules) c.in-Ok.ensures.read (search rules)

@@ -1,0 +1,2 @@
+pub mod PairCalls
+pub mod Counted

@@ -1,0 +1,3 @@
+pub mod Plain
+pub mod Follow
+pub mod ByPairs

@@ -1,0 +1,3 @@
+pub mod PlainSums
+pub mod Journal
+pub mod Follow

@@ -1,0 +1,37 @@
+-- Figures in number and in value, and sums of them over pairs. docs/RULES.md, 'A row'.
+use Rattle.std.specs.Prelude.{ℕ, ◌+◌, ◌*◌, Bool, ◌||◌, ◌==◌, List, [], ◌∷◌, if◌then◌else◌}
+use Rattle.book.specs.declared.calls.Call.{Call}
+use Rattle.book.specs.declared.pairs.Entry.{Entry}
+use Rattle.book.specs.declared.figures.Figure.{Figure}
+use Rattle.history.specs.History.{entries}
+
+-- in number of SIs, or in value in cents
+pub data Measure : Type 0 where
+  number value : Measure
+
+-- a figure in that measure
+abbrev pub in_measure : Measure → Figure → ℕ
+in_measure number f = f.number
+in_measure value f = f.value
+
+-- a number and a value
+abbrev pub in_both : (Measure → ℕ) → Figure
+in_both n = record { number = n number; value = n value }
+
+-- two SIs worth v cents each
+abbrev pub of_two : Measure → ℕ → ℕ
+of_two number v = 2
+of_two value v = 2 * v
+
+-- the sum of f over a list
+abbrev pub sum_of : {X : Type 0} → (X → ℕ) → List X → ℕ
+sum_of f [] = 0
+sum_of f (x ∷ xs) = f x + sum_of f xs
+
+-- over the selected pairs
+abbrev pub over_pairs : (Entry → Bool) → (Entry → ℕ) → List Call → ℕ
+over_pairs selects adds h = sum_of (λ e. if selects e then adds e else 0) (entries h)
+
+-- Category 0 counts every pair, another category its own.
+abbrev pub counts : ℕ → Entry → Bool
+counts c e = c == 0 || e.category == c

@@ -1,0 +1,31 @@
+//! The first call line of a file, by the reader of lines.
+
+use lines::reader::{Line, first_call_line};
+use std::io;
+
+/// What the reader says of a file's first call line.
+fn say_first_line<R: Print>(rt: &R, file: &[u8]) -> io::Result<()> {
+    match first_call_line(file) {
+        Some(Line::Correct(_)) => print!(rt; "correct")?,
+        Some(Line::Wrong(place)) => print!(rt; "wrong at {place}")?,
+        None => print!(rt; "no line")?,
+    }
+    println!(rt; ": the first call line of a file, by the reader of lines")
+}
+
+/// A correct line, one that ends too early, and none.
+pub fn of_three_files<R: Print>(rt: &R) -> io::Result<()> {
+    println!(rt; "\nThe reader of lines")?;
+    say_first_line(
+        rt,
+        b"call,id,kind,category,day,side,amount,deliverer,receiver\n6,0,0,0,0,0,0,0,0\n",
+    )?;
+    say_first_line(
+        rt,
+        b"call,id,kind,category,day,side,amount,deliverer,receiver\n6,0,0\n",
+    )?;
+    say_first_line(
+        rt,
+        b"call,id,kind,category,day,side,amount,deliverer,receiver\n",
+    )
+}

@@ -1,0 +1,21 @@
+-- Numbers in decimal: of 1 to 11 digits, no leading zero except 0 itself. docs/RULES.md, 'The calls as text'.
+use Rattle.std.specs.Prelude.{◌≡◌, ℕ, ◌^◌, ◌<◌, ◌≤◌, ◌↔◌, List, [], ◌∷◌, length}
+use Rattle.std.specs.Fmt.{decimal}
+use Rattle.std.specs.Str.Parse.{IsNumeral, digits_value}
+
+-- no leading zero except 0 itself
+abbrev pub HasNoLeadingZero : List ℕ → Type 0
+HasNoLeadingZero [] = Unit {0}
+HasNoLeadingZero (digit ∷ digits) = digit ≡ 48 → digits ≡ []
+
+-- digits, at least one, no leading zero except 0 itself, that stand for a number
+pub record StandFor (digits : List ℕ) (number : ℕ) : Type 0 where
+  pub numeral : IsNumeral 10 digits
+  pub no_zero : HasNoLeadingZero digits
+  pub value : digits_value 10 digits ≡ number
+
+-- The decimal of a number is the one text that stands for it, and it has at most 11 digits exactly where the number is below
+-- 10 ^ 11.
+pub record IsDecimal (number : ℕ) : Type 0 where
+  pub one_text : (digits : List ℕ) → StandFor digits number ↔ (digits ≡ decimal number)
+  pub short : (length (decimal number) ≤ 11) ↔ (number < 10 ^ 11)

@@ -1,0 +1,47 @@
+//! One field of a line.
+
+ghost use Rattle.std.specs.Prelude.{◌≡◌, ℕ, ◌+◌, ◌-◌, ◌*◌, ◌^◌, ◌<◌, ◌≤◌, ◌++◌, ◌∷◌, IfOk, IfErr};
+ghost use Rattle.std.specs.Option.{SomeIff};
+ghost use Rattle.std.specs.Fmt.{decimal};
+ghost use Rattle.lines.specs.Parts.{Continues, IsField, IsFirstWrong};
+
+/// The number with a digit more, where the byte is one that may follow so many digits.
+fn with_digit(value: u64, digits: usize, byte: u8, lowest: u64, highest: u64) -> Option<u64>
+    requires { value < 10 ^ 11 }
+    ensures { SomeIff result (Continues lowest highest value digits byte) (value * 10 + (byte - 48)) }
+{
+    if !byte.is_ascii_digit() || (digits > 0 && value == 0) {
+        return None;
+    }
+    let next = value * 10 + u64::from(byte - b'0');
+    if lowest <= next && next <= highest {
+        Some(next)
+    } else {
+        None
+    }
+}
+
+/// The number of a field within its bounds and what is left behind the byte that ends it, or what is left from the first
+/// wrong byte on.
+pub(crate) fn field(text: &[u8], lowest: u64, highest: u64, end: u8) -> Result<(u64, &[u8]), &[u8]>
+    requires lowest { lowest ≤ 1 }
+    requires order { lowest ≤ highest }
+    requires highest { highest < 10 ^ 11 }
+    requires end { end < 48 }
+    ensures low { IfOk result (λ read. lowest ≤ read.0) }
+    ensures high { IfOk result (λ read. read.0 ≤ highest) }
+    ensures spelled { IfOk result (λ read. text.now ≡ decimal read.0 ++ end ∷ read.1.now) }
+    ensures wrong { IfErr result (λ left. IsFirstWrong (IsField lowest highest end) text.now left.now) }
+{
+    let mut value = 0;
+    for (i, byte) in text.iter().enumerate() {
+        if i > 0 && *byte == end {
+            return Ok((value, &text[i + 1..]));
+        }
+        match with_digit(value, i, *byte, lowest, highest) {
+            Some(next) => value = next,
+            None => return Err(&text[i..]),
+        }
+    }
+    Err(&[])
+}

@@ -1,0 +1,77 @@
+//! What follows from the definitions of `specs/` for every text: each function's contract is a theorem.
+
+ghost use Rattle.std.specs.Prelude.{◌≡◌, ℕ, ◌^◌, ◌<◌, List, ◌++◌, drop, Option, option_map};
+ghost use Rattle.std.specs.List.{after_first};
+ghost use Rattle.book.specs.declared.calls.Call.{Call};
+ghost use Rattle.lines.specs.declared.reader.Line.{Line};
+ghost use Rattle.lines.specs.Decimals.{IsDecimal};
+ghost use Rattle.lines.specs.Grammar.{HasShortFields, line_of};
+ghost use Rattle.lines.specs.Reading.{is_line_feed, AreLines, IsLineAt, IsReading, IsRight, GoesOn};
+ghost use Rattle.lines.specs.Texts.{ArePieces, RoundTrip};
+ghost use Rattle.lines.specs.Written.{names, IsPut, PutLeaves};
+ghost use Rattle.lines.specs.Worked.{WorkedHold};
+
+/// Each number has one text, with no leading zero, and at most 11 digits exactly below 10 ^ 11.
+pub fn one_decimal()
+    ensures { (number : ℕ) → number < 2 ^ 64 → IsDecimal number }
+{}
+
+/// Two calls with the same line are one, and no line begins another: what was written is read again, whatever follows it.
+pub fn one_line()
+    ensures { (one other : Call) (rest more : List ℕ) → HasShortFields one → HasShortFields other
+        → line_of one ++ rest ≡ line_of other ++ more → (one ≡ other) × (rest ≡ more) }
+{}
+
+/// What is read at a place is a call exactly where that call's line stands there, a place exactly where that is the first
+/// wrong byte's, and nothing exactly where no byte is left.
+pub fn right_reading()
+    ensures { (text : List ℕ) (at : ℕ) (read : Option (Line × ℕ)) → IsReading text at read
+        → IsRight (drop at text) (option_map (λ (line, next). line) read) }
+{}
+
+/// Reading goes on behind the first LF from the line's start on, which is the first from a wrong byte on.
+pub fn goes_on()
+    ensures { (text : List ℕ) (at : ℕ) (line : Line) (next : ℕ) → IsLineAt text at line next → GoesOn text at line next }
+{}
+
+/// Each text has lines.
+pub fn has_lines()
+    ensures { (text : List ℕ) (at : ℕ) → (lines : List Line) × AreLines text at lines }
+{}
+
+/// A text is read in one way.
+pub fn one_reading()
+    ensures { (text : List ℕ) (at : ℕ) (one other : List Line) → AreLines text at one → AreLines text at other → one ≡ other }
+{}
+
+/// The lines of a text from a place on are its pieces from there on, cut behind each LF, each read by itself.
+pub fn lines_are_pieces()
+    ensures { (text : List ℕ) (at : ℕ) (lines : List Line) → AreLines text at lines → ArePieces (drop at text) lines }
+{}
+
+/// Behind the names line stands the first call line.
+pub fn names_next()
+    ensures { (rest : List ℕ) → after_first is_line_feed (names ++ rest) ≡ rest }
+{}
+
+/// A file that is written reads as the same calls; equal calls mean equal bytes, and equal bytes equal calls.
+pub fn round_trip()
+    ensures { (text : List ℕ) (calls : List Call) → RoundTrip text calls }
+{}
+
+/// What a put leaves: the bytes in front of the place and behind those put.
+pub fn put_leaves()
+    ensures { (before : List ℕ) (at : ℕ) (bytes : List ℕ) (place : ℕ) (after : List ℕ)
+        → IsPut before at bytes place after → PutLeaves before at bytes after }
+{}
+
+/// Bytes that are put in two steps, the second behind the first, stand as if they were put in one.
+pub fn put_then()
+    ensures { (before middle after : List ℕ) (at place end : ℕ) (bytes more : List ℕ) → IsPut before at bytes place middle
+        → IsPut middle place more end after → IsPut before at (bytes ++ more) end after }
+{}
+
+/// The worked lines and texts are read as they say.
+pub fn worked_lines()
+    ensures { WorkedHold }
+{}

@@ -1,0 +1,123 @@
+//! The reader of lines: the lent text and a position.
+
+ghost use Rattle.std.specs.Prelude.{◌≡◌, ℕ, ◌+◌, ◌-◌, ◌<◌, ◌≤◌, ◌==◌, length, drop, position};
+ghost use Rattle.std.specs.List.{after_first};
+ghost use Rattle.std.specs.Iterator.{at_most};
+ghost use Rattle.lines.specs.Reading.{IsLineAt, IsReading, IsFirstLine, is_line_feed};
+
+use crate::line::read_call;
+use book::calls::Call;
+
+/// What a line is read as.
+///
+/// It is the customer's wish that the answer of a line is an enum of the project's own, with a case that carries the call and
+/// a case that carries a position.
+#[derive(Clone, Copy, Debug, PartialEq, Eq)]
+pub enum Line {
+    /// A correct line: its call.
+    Correct(Call),
+    /// A wrong line: the place of its first wrong byte, counted from 0 at the line's start.
+    Wrong(usize),
+}
+
+/// Where a text's first LF is.
+fn line_feed(text: &[u8]) -> Option<usize>
+    ensures { result ≡ position is_line_feed text.now }
+{
+    text.iter().position(|byte| *byte == b'\n')
+}
+
+/// What stands behind a text's first LF: nothing where there is none.
+#[tactic(auto, using(crate::proofs::Places::position_is, crate::proofs::Places::no_position))]
+fn behind_line_feed(text: &[u8]) -> &[u8]
+    ensures { result.now ≡ after_first is_line_feed text.now }
+{
+    match line_feed(text) {
+        Some(end) => &text[end + 1..],
+        None => &[],
+    }
+}
+
+/// The place, from the start of the line at a place of a text, of the byte with which what is left of the text begins.
+fn place_of(text: &[u8], at: usize, left: &[u8]) -> usize
+    requires { at + length left.now ≤ length text.now }
+    ensures { at + result + length left.now ≡ length text.now }
+{
+    text.len() - at - left.len()
+}
+
+/// The line at a place of the text, where a byte is left, and the place where the next one starts.
+fn line_at(text: &[u8], at: usize) -> (Line, usize)
+    requires { at < length text.now }
+    ensures { IsLineAt text.now at result.0 result.1 }
+{
+    let (_, line) = text.split_at(at);
+    match read_call(line) {
+        Ok((call, left)) => (Line::Correct(call), text.len() - left.len()),
+        Err(left) => {
+            let place = place_of(text, at, left);
+            (
+                Line::Wrong(place),
+                text.len() - behind_line_feed(left).len(),
+            )
+        }
+    }
+}
+
+/// The line at a place of the text, which may be any number, and the place where the next one starts; with no byte left there
+/// is no line.
+pub fn read_line(text: &[u8], at: usize) -> Option<(Line, usize)>
+    ensures { IsReading text.now at result }
+{
+    if at < text.len() {
+        Some(line_at(text, at))
+    } else {
+        None
+    }
+}
+
+/// The first call line of a file: the one behind its first line, whether or not that is the names line.
+pub fn first_call_line(text: &[u8]) -> Option<Line>
+    ensures { IsFirstLine (after_first is_line_feed text.now) result }
+{
+    let (line, _) = read_line(behind_line_feed(text), 0)?;
+    Some(line)
+}
+
+/// The lines of a text, from a position on.
+///
+/// It is the customer's wish that the reader is a thin struct over the lent bytes and a position, and that functions on slice
+/// and number do the work.
+#[derive(Clone, Copy, Debug)]
+pub struct Lines<'a> {
+    /// The text.
+    pub text: &'a [u8],
+    /// Where the next line starts, which may be any number.
+    pub at: usize,
+}
+
+impl<'a> Lines<'a> {
+    /// The lines of a text, from its start.
+    pub fn new(text: &'a [u8]) -> Lines<'a>
+        ensures text { result.text ≡ text.entry }
+        ensures at { result.at ≡ 0 }
+    {
+        Lines { text, at: 0 }
+    }
+}
+
+impl Iterator for Lines<'_> {
+    ghost use Rattle.lines.specs.Reading.{GivesLine};
+
+    type Item = Line;
+
+    ghost next_gives = { GivesLine };
+
+    ghost remaining = { λ lines. at_most (length lines.text.now - lines.at) };
+
+    fn next(&mut self) -> Option<Line> {
+        let (line, next) = read_line(self.text, self.at)?;
+        self.at = next;
+        Some(line)
+    }
+}

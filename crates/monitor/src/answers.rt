@@ -1,0 +1,61 @@
+//! What came of each line of a call file.
+
+ghost use Rattle.std.specs.Prelude.{◌≡◌, ◌+◌, ◌≤◌, ◌++◌, [], length};
+ghost use Rattle.monitor.specs.Texts.{IsTextOf};
+ghost use Rattle.lines.specs.Written.{names};
+ghost use Rattle.monitor.specs.Replay.{file_limit};
+ghost use Rattle.monitor.specs.Answers.{answer_line, answers, AreAnswers};
+
+use crate::page::{FAULT, Page, push, push_number};
+use crate::replay::{LineAnswer, lines_of, make};
+use book::book::Book;
+use book::calls::number_of;
+use lines::reader::Lines;
+
+/// As many bytes as the answers may take: 18 for each byte of a file.
+pub const ANSWER_ROOM: usize = 1_179_648;
+
+/// The line of an answer.
+#[tactic(auto, using(crate::proofs::Joined::three_parts))]
+fn push_answer<const N: usize>(page: &mut Page<N>, number: u64, answer: LineAnswer)
+    requires { length page.old.items + length (answer_line number answer) ≤ N }
+    ensures { page.new.items ≡ page.old.items ++ answer_line number answer }
+{
+    push_number(page, number, b',');
+    match answer {
+        LineAnswer::Made(answer) => {
+            push_number(page, number_of(answer), b',');
+            push(page, b"-\n");
+        }
+        LineAnswer::WrongByte(place) => {
+            push(page, b"wrong,");
+            push_number(page, place as u64, b'\n');
+        }
+    }
+}
+
+/// The names line, and a line for each of the lines of a file.
+fn push_answers(page: &mut Page<ANSWER_ROOM>, lines: Lines<'_>)
+    requires empty { page.old.items ≡ [] }
+    requires start { lines.at ≡ 0 }
+    requires short { length lines.text.now + length names ≤ file_limit }
+    ensures { AreAnswers lines.entry.text.now page.new.items }
+{
+    push(page, b"line,answer,place\n");
+    let mut book = Book::fresh();
+    for (number, line) in (1..).zip(lines) {
+        push_answer(page, number, make(&mut book, line));
+    }
+}
+
+/// What came of each line of a file.
+// As `write_table` but for the text.
+pub fn write_answers(file: &[u8], page: &mut Page<ANSWER_ROOM>)
+    ensures { IsTextOf answers file.now page.new.items }
+{
+    page.clear();
+    match lines_of(file) {
+        Ok(lines) => push_answers(page, lines),
+        Err(_) => push(page, FAULT),
+    }
+}

@@ -1,0 +1,78 @@
+-- A participant's summaries over a run of days, and all forty participants: each goes on by one.
+use Rattle.std.proofs.Common.{◌≡◌, ℕ, zero, suc, ◌+◌, ◌-◌, ◌<◌, ◌≤◌, min, List, [], ◌∷◌, ◌++◌, length, get_or, map, refl, sym, ◌∙◌, ap, ⊎_elim, arith}
+use Rattle.std.specs.Prelude.{Bool, true, false, ◌==◌, count_by}
+use Rattle.std.specs.List.{range_with_len}
+use Rattle.std.proofs.lemmas.Bool.{cases_lt}
+use Rattle.std.proofs.lemmas.Bool.Decides.{nat_tests}
+use Rattle.std.proofs.lemmas.List.FromFn.{fill_by_all}
+use Rattle.book.specs.declared.figures.Summary.{Summary}
+use Rattle.book.specs.declared.book.Book.{Book}
+use Rattle.book.specs.Limits.{largest_code}
+use Rattle.book.specs.Figures.{add_summary, no_summary, place}
+use Rattle.reports.proofs.Steps.{add_figure-figure_over, sum_next}
+use Rattle.ranking.specs.declared.participant.Participant.{Participant}
+use Rattle.ranking.specs.declared.runs.Measure.{Measure}
+use Rattle.ranking.specs.Meaning.{CodesRise}
+use Rattle.ranking.specs.Runs.{summaries_over, participant_of, participants_of}
+use Rattle.ranking.proofs.Counts.{one_if, count_by-cons}
+
+add_summary-summaries_over : (summaries : List Summary) (s : Summary) → add_summary (summaries_over summaries) s ≡ summaries_over (summaries ++ s ∷ [])
+unfolding summaries_over
+add_summary-summaries_over summaries s = λ i. record {
+  total = add_figure-figure_over (λ (s : Summary). s.total) summaries s i;
+  fails = add_figure-figure_over (λ (s : Summary). s.fails) summaries s i;
+}
+
+pub summaries_next : (f : ℕ → Summary) (first day : ℕ) (so_far next : Summary) → first ≤ day → so_far ≡ summaries_over (map f (range_with_len first (day - first)))
+    → next ≡ add_summary so_far (f day) → next ≡ summaries_over (map f (range_with_len first (day + 1 - first)))
+summaries_next = sum_next add_summary summaries_over add_summary-summaries_over
+
+pub summaries_none : (f : ℕ → Summary) (first : ℕ) → no_summary ≡ summaries_over (map f (range_with_len first (first - first)))
+unfolding summaries_over
+summaries_none f first = ap (λ n. summaries_over (map f (range_with_len first n))) (let e : 0 ≡ first - first = omega arith in e)
+
+-- all forty, by places from 0 on
+next_ones : (f : ℕ → Participant) (low n : ℕ) → map (λ place. f (place + 1)) (range_with_len low n) ≡ map f (range_with_len (low + 1) n)
+next_ones f low zero = refl
+next_ones f low (suc n) = ap (λ l. f (low + 1) ∷ l) (next_ones f (low + 1) n)
+
+pub all_forty : (first last : ℕ) (m : Measure) (b : Book) (all : List Participant) → length all ≡ 40
+    → ((place : ℕ) (d : Participant) → place < 40 → get_or all place d ≡ participant_of first last m b (place + 1)) → all ≡ participants_of first last m b
+unfolding participants_of
+all_forty first last m b all long each =
+    fill_by_all (λ place. participant_of first last m b (place + 1)) all 40 (participant_of first last m b 0) long (λ place below. each place (participant_of first last m b 0) below)
+    ∙ next_ones (participant_of first last m b) 0 40
+
+-- ---- their codes
+
+module _ (f : ℕ → Participant) (has : (code : ℕ) → (f code).code ≡ code) where
+  pub codes_of : (low n : ℕ) → map (λ (p : Participant). p.code) (map f (range_with_len low n)) ≡ range_with_len low n
+  codes_of low zero = refl
+  codes_of low (suc n) = λ i. has low i ∷ codes_of (low + 1) n i
+
+  none_below : (code low n : ℕ) → code < low → count_by (λ (p : Participant). p.code == code) (map f (range_with_len low n)) ≡ 0
+  none_below code low zero below = refl
+  none_below code low (suc n) below =
+      let apart : one_if ((f low).code == code) ≡ 0 = ap (λ k. one_if (k == code)) (has low) ∙ ap one_if (let e : (low == code) ≡ false = grind (arith, nat_tests) in e) in
+      omega (arith, count_by-cons (λ (p : Participant). p.code == code) (f low) (map f (range_with_len (low + 1) n)), none_below code (low + 1) n (omega arith))
+
+  pub distinct : (low n code : ℕ) → count_by (λ (p : Participant). p.code == code) (map f (range_with_len low n)) ≤ 1
+  distinct low zero code = omega arith
+  distinct low (suc n) code = ⊎_elim
+      (λ above. omega (arith, count_by-cons (λ (p : Participant). p.code == code) (f low) (map f (range_with_len (low + 1) n)), most ((f low).code == code), none_below code (low + 1) n above))
+      (λ under.
+      let apart : one_if ((f low).code == code) ≡ 0 = ap (λ k. one_if (k == code)) (has low) ∙ ap one_if (let e : (low == code) ≡ false = grind (arith, nat_tests) in e) in
+      omega (arith, count_by-cons (λ (p : Participant). p.code == code) (f low) (map f (range_with_len (low + 1) n)), apart, distinct (low + 1) n code))
+      (cases_lt code (low + 1))
+    where
+      most : (b : Bool) → one_if b ≤ 1
+      most true = omega arith
+      most false = omega arith
+
+pub codes : CodesRise
+unfolding participants_of
+codes first last m b = (codes_of (participant_of first last m b) (λ code. refl) 1 40, distinct (participant_of first last m b) (λ code. refl) 1 40)
+
+-- a participant's place on a day of the 64 is no later than the last one
+pub place-within : (day code : ℕ) → day < 64 → code ≤ 40 → min (place largest_code day code) 2559 ≡ place largest_code day code
+place-within day code inside high = omega arith

@@ -1,4 +1,0 @@
-pub mod Rounding
-pub mod RateBounds
-pub mod DurationValues
-pub mod Examples

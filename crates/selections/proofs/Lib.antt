@@ -1,0 +1,3 @@
+pub mod OnePair
+pub mod Whole
+pub mod Amounts

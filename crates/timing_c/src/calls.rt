@@ -1,0 +1,297 @@
+//! The six calls, each by value, as the customer asked for them, and in place.
+ghost use Rattle.std.specs.Prelude.{◌≡◌, ◌<◌, ◌≤◌};
+ghost use Rattle.book.specs.Limits.{open_limit, largest_id};
+
+use arrayvec::ArrayVec;
+use book::book::{Book, Outcome};
+use book::calls::{Answer, Call};
+use book::limits::{DAYS, LARGEST_CODE, OPEN_LIMIT};
+use book::pairs::Entry;
+
+/// The last pair of the full book.
+const LAST_ID: u64 = OPEN_LIMIT as u64;
+
+/// So many turns have ids of their own: the last enters id 61,024.
+const TURNS: u64 = 60_000;
+
+/// A pair due on day 0; ids side by side differ in category, kind and deliverer.
+fn entry_of(id: u64) -> Entry {
+    Entry {
+        id,
+        kind: 1 + id % 4,
+        category: 1 + id % 9,
+        isd: 0,
+        side: 1 + id % 2,
+        amount: 1_000_000 + id % 65_536,
+        deliverer: 1 + id % LARGEST_CODE,
+        receiver: 1 + id / LARGEST_CODE % LARGEST_CODE,
+    }
+}
+
+/// 1,024 open pairs over the nine categories and the four kinds, all due on day 0.
+fn full() -> Book {
+    let mut book = Book::fresh();
+    for id in 1..LAST_ID + 1 {
+        let _ = book.apply(Call::Enter(entry_of(id)));
+    }
+    book
+}
+
+/// A call made by value.
+fn made(book: Book, call: Call) -> Outcome {
+    match call {
+        Call::Enter(entry) => book.enter(entry),
+        Call::Hold { id, side, on } => book.hold(id, side, on),
+        Call::Lack { id, lack } => book.lack(id, lack),
+        Call::Settle { id, part } => book.settle(id, part),
+        Call::Cancel { id } => book.cancel(id),
+        Call::Close => book.close(),
+    }
+}
+
+/// 1 where the call was accepted.
+fn accepted(answer: Answer) -> u64
+    ensures { result ≤ 1 }
+{
+    match answer {
+        Ok(()) => 1,
+        Err(_) => 0,
+    }
+}
+
+/// So many calls of the full book, by value: how many were accepted.
+fn by_value<F: Fn(u64) -> Call>(times: u64, call: F) -> u64
+    requires { F.IsAlwaysCallable call }
+    ensures { result ≤ times }
+{
+    let mut book = full();
+    let mut count = 0;
+    for n in 0..times {
+        let outcome = made(book, call(n));
+        book = outcome.book;
+        count += accepted(outcome.answer);
+    }
+    count
+}
+
+/// The same in place.
+fn in_place<F: Fn(u64) -> Call>(times: u64, call: F) -> u64
+    requires { F.IsAlwaysCallable call }
+    ensures { result ≤ times }
+{
+    let mut book = full();
+    let mut count = 0;
+    for n in 0..times {
+        count += accepted(book.apply(call(n)));
+    }
+    count
+}
+
+/// The securities fails of a day over all categories, in cents; 0 where the row is refused.
+fn securities_on(book: &Book, day: u64) -> u64 {
+    match book.row(day, 0) {
+        Ok(row) => row.securities.value,
+        Err(_) => 0,
+    }
+}
+
+/// A close for each of the 64 days, by value: what failed on the last.
+fn closed_by_value(mut book: Book) -> u64 {
+    for _ in 0..DAYS {
+        let outcome = book.close();
+        book = outcome.book;
+    }
+    securities_on(&book, DAYS - 1)
+}
+
+/// The same in place.
+fn closed_in_place(mut book: Book) -> u64 {
+    for _ in 0..DAYS {
+        let _ = book.apply(Call::Close);
+    }
+    securities_on(&book, DAYS - 1)
+}
+
+/// Another book with the same pairs and figures. `clone` may fail, as it does for a type that has a heap.
+fn copied(book: &Book) -> Book {
+    let mut pairs = ArrayVec::new();
+    for pair in book.pairs.iter() {
+        let _ = pairs.try_push(*pair);
+    }
+    Book {
+        pairs,
+        cells: book.cells,
+        summaries: book.summaries,
+        today: book.today,
+        last_id: book.last_id,
+    }
+}
+
+/// 64 closes of a book, so many times over: what failed on the last day.
+fn closes_of<F: Fn(Book) -> u64>(times: u64, start: &Book, closed: F) -> u64
+    requires { F.IsAlwaysCallable closed }
+    ensures { times ≡ 0 → result ≡ 0 }
+{
+    let mut last = 0;
+    for _ in 0..times {
+        last = closed(copied(start));
+    }
+    last
+}
+
+/// 64 closes of the full book, one for each day, so many times over: what failed on the last day, in cents.
+#[unsafe(no_mangle)]
+pub extern "C" fn closes(times: u64) -> u64
+    ensures { times ≡ 0 → result ≡ 0 }
+{
+    closes_of(times, &full(), closed_by_value)
+}
+
+/// The same in place.
+#[unsafe(no_mangle)]
+pub extern "C" fn closes_in_place(times: u64) -> u64
+    ensures { times ≡ 0 → result ≡ 0 }
+{
+    closes_of(times, &full(), closed_in_place)
+}
+
+/// The same of a book with no open pair, in which nothing fails.
+#[unsafe(no_mangle)]
+pub extern "C" fn empty_closes(times: u64) -> u64
+    ensures { times ≡ 0 → result ≡ 0 }
+{
+    closes_of(times, &Book::fresh(), closed_by_value)
+}
+
+/// The same in place.
+#[unsafe(no_mangle)]
+pub extern "C" fn empty_closes_in_place(times: u64) -> u64
+    ensures { times ≡ 0 → result ≡ 0 }
+{
+    closes_of(times, &Book::fresh(), closed_in_place)
+}
+
+/// A hold of the last pair, on and off.
+fn hold(n: u64) -> Call {
+    Call::Hold {
+        id: LAST_ID,
+        side: 1,
+        on: n % 2,
+    }
+}
+
+/// So many holds of the last pair, on and off: how many were accepted.
+#[unsafe(no_mangle)]
+pub extern "C" fn holds(times: u64) -> u64
+    ensures { result ≤ times }
+{
+    by_value(times, hold)
+}
+
+/// The same in place.
+#[unsafe(no_mangle)]
+pub extern "C" fn holds_in_place(times: u64) -> u64
+    ensures { result ≤ times }
+{
+    in_place(times, hold)
+}
+
+/// A settle of one cent of the last pair.
+fn settle(_n: u64) -> Call {
+    Call::Settle {
+        id: LAST_ID,
+        part: 1,
+    }
+}
+
+/// So many settles of one cent of the last pair: how many were accepted.
+#[unsafe(no_mangle)]
+pub extern "C" fn settles(times: u64) -> u64
+    ensures { result ≤ times }
+{
+    by_value(times, settle)
+}
+
+/// The same in place.
+#[unsafe(no_mangle)]
+pub extern "C" fn settles_in_place(times: u64) -> u64
+    ensures { result ≤ times }
+{
+    in_place(times, settle)
+}
+
+/// An enter into the full book.
+fn enter(_n: u64) -> Call {
+    Call::Enter(entry_of(LAST_ID + 1))
+}
+
+/// So many enters into the full book: how many were accepted, which is none.
+#[unsafe(no_mangle)]
+pub extern "C" fn enters(times: u64) -> u64
+    ensures { result ≤ times }
+{
+    by_value(times, enter)
+}
+
+/// The same in place.
+#[unsafe(no_mangle)]
+pub extern "C" fn enters_in_place(times: u64) -> u64
+    ensures { result ≤ times }
+{
+    in_place(times, enter)
+}
+
+/// The id of a turn.
+fn id_at(turn: u64) -> u64
+    ensures low { open_limit ≤ result }
+    ensures high { result < largest_id }
+{
+    LAST_ID + turn % TURNS
+}
+
+/// So many times the pair in the last place is cancelled and another entered there, by value: how many enters were accepted.
+#[unsafe(no_mangle)]
+pub extern "C" fn replaces(times: u64) -> u64
+    ensures { result ≤ times }
+{
+    let mut book = full();
+    let mut count = 0;
+    for turn in 0..times {
+        let cancelled = book.cancel(id_at(turn));
+        let entered = cancelled.book.enter(entry_of(id_at(turn) + 1));
+        book = entered.book;
+        count += accepted(entered.answer);
+    }
+    count
+}
+
+/// So many times a pair is cancelled, so many ids before the one that is entered, in place: how many enters were accepted.
+fn replaced_in_place(times: u64, before: u64) -> u64
+    requires { before ≤ open_limit }
+    ensures { result ≤ times }
+{
+    let mut book = full();
+    let mut count = 0;
+    for turn in 0..times {
+        let id = id_at(turn) + 1;
+        let _ = book.apply(Call::Cancel { id: id - before });
+        count += accepted(book.apply(Call::Enter(entry_of(id))));
+    }
+    count
+}
+
+/// The same as `replaces`, in place.
+#[unsafe(no_mangle)]
+pub extern "C" fn replaces_in_place(times: u64) -> u64
+    ensures { result ≤ times }
+{
+    replaced_in_place(times, 1)
+}
+
+/// So many times the pair in the first place is cancelled and another entered behind the last: how many enters were accepted.
+#[unsafe(no_mangle)]
+pub extern "C" fn replaces_first_in_place(times: u64) -> u64
+    ensures { result ≤ times }
+{
+    replaced_in_place(times, OPEN_LIMIT as u64)
+}
