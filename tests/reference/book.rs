@@ -32,8 +32,8 @@ pub struct Share {
     pub row: Row,
 }
 
-/// An accepted enter, the day it fell on, and the accepted calls of its id since, each with its day.
-struct Life {
+/// A pair: its accepted enter, the day it fell on, and the accepted calls of its id since, each with its day.
+struct Pair {
     entry: Entry,
     matched: u64,
     calls: Vec<(u64, Call)>,
@@ -57,7 +57,7 @@ enum Sides {
 }
 
 pub struct Book {
-    lives: Vec<Life>,
+    pairs: Vec<Pair>,
     today: u64,
     planted: Planted,
     highest_refused: u64,
@@ -125,7 +125,7 @@ fn is_code(number: u64, planted: Planted) -> bool {
 
 impl Book {
     pub fn fresh(planted: Planted) -> Book {
-        Book { lives: Vec::new(), today: 0, planted, highest_refused: 0 }
+        Book { pairs: Vec::new(), today: 0, planted, highest_refused: 0 }
     }
 
     /// Makes a call: 0, or the number by which it is refused.
@@ -141,11 +141,11 @@ impl Book {
 
     fn keep(&mut self, call: Call) {
         match (call, call.id()) {
-            (Call::Enter(entry), _) => self.lives.push(Life { entry, matched: self.today, calls: Vec::new() }),
+            (Call::Enter(entry), _) => self.pairs.push(Pair { entry, matched: self.today, calls: Vec::new() }),
             (_, Some(id)) => {
                 let today = self.today;
-                let life = self.lives.iter_mut().rev().find(|life| life.entry.id == id);
-                life.expect("an open pair").calls.push((today, call));
+                let pair = self.pairs.iter_mut().rev().find(|pair| pair.entry.id == id);
+                pair.expect("an open pair").calls.push((today, call));
             }
             (_, None) => self.today += 1,
         }
@@ -187,11 +187,11 @@ impl Book {
 
     fn settle_numbers(&self, id: u64, part: u64) -> Vec<(u64, bool)> {
         let large = self.planted.has(Mistake::LargePartOutOfRange) && part > 10_000_000_000;
-        let Some((life, standing)) = self.open(id) else { return vec![(2, large), (5, true)] };
+        let Some((pair, standing)) = self.open(id) else { return vec![(2, large), (5, true)] };
         let (one, other) = (standing.deliverer_holds, standing.receiver_holds);
         vec![
             (2, large),
-            (6, self.today < life.entry.isd && !self.planted.has(Mistake::SettledBeforeIsd)),
+            (6, self.today < pair.entry.isd && !self.planted.has(Mistake::SettledBeforeIsd)),
             (7, self.planted.right_or(Mistake::OneHoldDoesNotStop, one || other, one && other)),
             (8, part == 0 || part > standing.rest),
         ]
@@ -199,7 +199,7 @@ impl Book {
 
     /// The highest id accepted.
     fn highest_spent(&self) -> u64 {
-        let accepted = self.lives.last().map_or(0, |life| life.entry.id);
+        let accepted = self.pairs.last().map_or(0, |pair| pair.entry.id);
         let spent = self.planted.right_or(Mistake::RefusedIdSpent, accepted, accepted.max(self.highest_refused));
         self.planted.right_or(Mistake::LastIdAgain, spent, spent.saturating_sub(1))
     }
@@ -207,28 +207,28 @@ impl Book {
     /// How many places are taken.
     fn taken(&self) -> usize {
         let since = self.planted.right_or(Mistake::PlaceFreeAtClose, self.today + 1, self.today);
-        self.lives.iter().filter(|life| self.planted.has(Mistake::PlaceNeverFree) || self.was_open(life, since)).count()
+        self.pairs.iter().filter(|pair| self.planted.has(Mistake::PlaceNeverFree) || self.was_open(pair, since)).count()
     }
 
     /// Whether a pair is open, or was until a call of this day or a later one.
-    fn was_open(&self, life: &Life, since: u64) -> bool {
-        let ended_since = life.calls.last().is_some_and(|&(day, _)| day >= since);
-        ended_since || self.standing(life, self.today).is_open()
+    fn was_open(&self, pair: &Pair, since: u64) -> bool {
+        let ended_since = pair.calls.last().is_some_and(|&(day, _)| day >= since);
+        ended_since || self.standing(pair, self.today).is_open()
     }
 
     /// The open pair of an id.
-    fn open(&self, id: u64) -> Option<(&Life, Standing)> {
-        let life = self.lives.iter().rev().find(|life| life.entry.id == id)?;
-        Some((life, self.standing(life, self.today))).filter(|(_, standing)| standing.is_open())
+    fn open(&self, id: u64) -> Option<(&Pair, Standing)> {
+        let pair = self.pairs.iter().rev().find(|pair| pair.entry.id == id)?;
+        Some((pair, self.standing(pair, self.today))).filter(|(_, standing)| standing.is_open())
     }
 
-    // ---- the life of a pair
+    // ---- a pair
 
     /// How a pair stands after its calls up to the end of a day.
-    fn standing(&self, life: &Life, day: u64) -> Standing {
+    fn standing(&self, pair: &Pair, day: u64) -> Standing {
         let mut standing =
-            Standing { rest: life.entry.amount, deliverer_holds: false, receiver_holds: false, lack: 0, cancelled: None };
-        for &(on, call) in life.calls.iter().filter(|&&(on, _)| on <= day) {
+            Standing { rest: pair.entry.amount, deliverer_holds: false, receiver_holds: false, lack: 0, cancelled: None };
+        for &(on, call) in pair.calls.iter().filter(|&&(on, _)| on <= day) {
             match call {
                 Call::Hold { .. } if self.planted.has(Mistake::HoldEndsAtClose) && on < day => {}
                 Call::Lack { .. } if self.planted.has(Mistake::LackEndsAtClose) && on < day => {}
@@ -244,15 +244,15 @@ impl Book {
     }
 
     /// What a pair gives to the row of a day, which is closed.
-    fn share(&self, life: &Life, day: u64) -> Row {
-        let mut row = Row { settled: self.settled_on(life, day), ..Row::default() };
-        let missed = life.entry.isd..life.matched;
-        let once_more = self.planted.has(Mistake::LateOnMatchingDayToo) && !missed.is_empty() && day == life.matched;
+    fn share(&self, pair: &Pair, day: u64) -> Row {
+        let mut row = Row { settled: self.settled_on(pair, day), ..Row::default() };
+        let missed = pair.entry.isd..pair.matched;
+        let once_more = self.planted.has(Mistake::LateOnMatchingDayToo) && !missed.is_empty() && day == pair.matched;
         if missed.contains(&day) && !self.planted.has(Mistake::LateFromMatchingDay) || once_more {
-            row += self.late_fail(life, day);
+            row += self.late_fail(pair, day);
         }
-        if day >= life.matched && day >= life.entry.isd {
-            row += self.fail_at_close(life, day);
+        if day >= pair.matched && day >= pair.entry.isd {
+            row += self.fail_at_close(pair, day);
         }
         row
     }
@@ -273,10 +273,10 @@ impl Book {
     }
 
     /// The parts settled on a day: 2 SIs once, and twice their value.
-    fn settled_on(&self, life: &Life, day: u64) -> Figure {
+    fn settled_on(&self, pair: &Pair, day: u64) -> Figure {
         let parts: Vec<u64> =
-            life.calls.iter().filter(|&&(on, _)| on == day).filter_map(|&(_, call)| part_of(call)).collect();
-        let cancelled = self.standing(life, day).cancelled == Some(day);
+            pair.calls.iter().filter(|&&(on, _)| on == day).filter_map(|&(_, call)| part_of(call)).collect();
+        let cancelled = self.standing(pair, day).cancelled == Some(day);
         if parts.is_empty() || cancelled && self.planted.has(Mistake::SettledPartCancelled) {
             return Figure::default();
         }
@@ -285,33 +285,33 @@ impl Book {
     }
 
     /// A day from the ISD to the day before the matching: both SIs fail at full value.
-    fn late_fail(&self, life: &Life, day: u64) -> Row {
-        let to = match life.entry.kind {
-            _ if self.planted.has(Mistake::LateByRulesAToF) => self.sides(life, day),
+    fn late_fail(&self, pair: &Pair, day: u64) -> Row {
+        let to = match pair.entry.kind {
+            _ if self.planted.has(Mistake::LateByRulesAToF) => self.sides(pair, day),
             2 if self.planted.has(Mistake::LateKind2OneEach) => Sides::OneEach,
             3 => Sides::Securities,
             4 => Sides::Cash,
-            _ => one_side(life.entry.side == 1),
+            _ => one_side(pair.entry.side == 1),
         };
-        let isd_counted = !self.planted.has(Mistake::LateIsdValueOnMatchingDay) && day == life.entry.isd;
-        self.fail(to, life.entry.amount, if isd_counted { life.entry.amount } else { 0 })
+        let isd_counted = !self.planted.has(Mistake::LateIsdValueOnMatchingDay) && day == pair.entry.isd;
+        self.fail(to, pair.entry.amount, if isd_counted { pair.entry.amount } else { 0 })
     }
 
     /// A close: an open pair that is due fails with its rest.
-    fn fail_at_close(&self, life: &Life, day: u64) -> Row {
-        let standing = self.standing(life, day);
+    fn fail_at_close(&self, pair: &Pair, day: u64) -> Row {
+        let standing = self.standing(pair, day);
         let cancelled_today = self.planted.has(Mistake::CancelledStillFails) && standing.cancelled == Some(day);
-        let too_early = self.planted.has(Mistake::NotFailingOnIsd) && day == life.entry.isd;
+        let too_early = self.planted.has(Mistake::NotFailingOnIsd) && day == pair.entry.isd;
         if too_early || standing.rest == 0 || !(standing.is_open() || cancelled_today) {
             return Row::default();
         }
-        let moved = self.planted.has(Mistake::LateIsdValueOnMatchingDay) && day == life.matched && life.entry.isd < day;
-        let isd_value = match day == life.entry.isd || moved {
-            true => self.planted.right_or(Mistake::IsdValueAtFullAmount, standing.rest, life.entry.amount),
+        let moved = self.planted.has(Mistake::LateIsdValueOnMatchingDay) && day == pair.matched && pair.entry.isd < day;
+        let isd_value = match day == pair.entry.isd || moved {
+            true => self.planted.right_or(Mistake::IsdValueAtFullAmount, standing.rest, pair.entry.amount),
             false => 0,
         };
-        let value = self.planted.right_or(Mistake::FailsAtFullAmount, standing.rest, life.entry.amount);
-        self.fail(self.sides(life, day), value, isd_value)
+        let value = self.planted.right_or(Mistake::FailsAtFullAmount, standing.rest, pair.entry.amount);
+        self.fail(self.sides(pair, day), value, isd_value)
     }
 
     /// Both SIs to a side, or one and its value to each.
@@ -327,10 +327,10 @@ impl Book {
     }
 
     /// The side of a fail at close, the first that applies: docs/RULES.md, rules a to f.
-    fn sides(&self, life: &Life, day: u64) -> Sides {
+    fn sides(&self, pair: &Pair, day: u64) -> Sides {
         use Sides::{Cash, OneEach, Securities};
-        let standing = self.standing(life, day);
-        let kind = life.entry.kind;
+        let standing = self.standing(pair, day);
+        let kind = pair.entry.kind;
         let holds = u64::from(standing.deliverer_holds) + u64::from(standing.receiver_holds);
         let for_kind_2 = self.planted.right_or(Mistake::Kind2NeedsBothHolds, 1, 2);
         let planted = self.planted;
@@ -360,12 +360,12 @@ impl Book {
 
     /// What each pair gives on a closed day.
     pub fn shares(&self, day: u64) -> Vec<Share> {
-        let share_of = |life: &Life| Share {
-            entry: life.entry,
-            charged_late: day < life.matched,
-            row: self.spoilt(self.share(life, day), day),
+        let share_of = |pair: &Pair| Share {
+            entry: pair.entry,
+            charged_late: day < pair.matched,
+            row: self.spoilt(self.share(pair, day), day),
         };
-        self.lives.iter().map(share_of).collect()
+        self.pairs.iter().map(share_of).collect()
     }
 }
 

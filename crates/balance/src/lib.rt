@@ -10,6 +10,7 @@ use book::calls::Call;
 
 /// After every list of calls a row is given for the closed days and no other, and each of these rows balances. The contract of a
 /// call leaves one outcome; and the rows of whatever meets the contracts of the calls and of the row balance too.
+#[tactic(auto, using(crate::proofs::Rows::closed_given, crate::proofs::Rows::rows_balance, crate::proofs::Rows::one_outcome, crate::proofs::Rows::of_code, crate::proofs::Rows::of_function))]
 pub fn closed_days_balance()
     ensures given { ClosedDaysAreGiven }
     ensures balance { DailyBalance }
@@ -19,6 +20,7 @@ pub fn closed_days_balance()
 {}
 
 /// The book after a list of calls from a fresh one: its rows balance against these calls and their answers.
+#[tactic(auto, using(crate::proofs::Rows::rows_balance))]
 pub fn book_of_calls(calls: &[Call]) -> Book
     ensures book { result ≡ book_of calls.now }
     ensures balance { BalancesOnClosedDays (history_of calls.now) result }

@@ -158,7 +158,7 @@ impl Book {
         accepted
     }
 
-    /// Enter, by value. The customer asked for calls that take the book and hand it back; each costs three copies of 147 KB.
+    /// Enter, by value. The customer asked for calls that take the book and hand it back; each costs two copies of 147 KB.
     #[inline(always)]
     pub fn enter(mut self, entry: Entry) -> Outcome
         ensures answer { result.answer ≡ answer_to (Call.Enter entry) self }

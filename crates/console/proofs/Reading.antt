@@ -1,10 +1,10 @@
 -- What was read stands at the buffer's start: the front grows by each read, and at the end it is as much of the input as the
 -- buffer has room for.
-use Rattle.std.proofs.Common.{◌≡◌, ℕ, ◌+◌, ◌≤◌, List, [], ◌++◌, Option, None, Some, IfSome, length, take, drop, refl, sym, ap, ◌∙◌, subst, arith, append_assoc, length-take-le}
+use Rattle.std.proofs.Common.{◌≡◌, ℕ, ◌+◌, List, ◌++◌, Option, None, Some, length, take, drop, sym, ap, ◌∙◌, subst, append_assoc}
 use Rattle.std.specs.Prelude.{Result, Ok, Err, IfOk}
 use Rattle.std.specs.Io.{ReadsAtMost}
-use Rattle.std.specs.Io.KnownBytes.{ReadConsumes, Consumes, IsAtEnd}
-use Rattle.std.proofs.lemmas.List.{append-nil, take_all, take_at, drop_at, take-append-le}
+use Rattle.std.specs.Io.KnownBytes.{ReadConsumes, Consumes}
+use Rattle.std.proofs.lemmas.List.{drop_at, take-append-le}
 use lib.Seq.{take-add}
 
 -- what was read into a part stands behind the front
@@ -21,25 +21,6 @@ joined (Some x) None c first second p q = absurd p
 joined (Some x) (Some y) None first second p q = absurd q
 joined (Some x) (Some y) (Some z) first second p q = p ∙ ap (λ l. first ++ l) q ∙ sym (append_assoc first second z)
 
-pub none_read : (a : Option (List ℕ)) → Consumes a a []
-none_read None = tt
-none_read (Some x) = refl
-
 pub more_read : (a b c : Option (List ℕ)) (old new : List ℕ) (at n : ℕ) → take at new ≡ take at old → Consumes a b (take at old) → Consumes b c (take n (drop at new)) → Consumes a c (take (at + n) new)
 more_read a b c old new at n front before read =
     subst (Consumes a c) (ap (λ l. l ++ take n (drop at new)) (sym front) ∙ sym (take-add at n new)) (joined a b c _ _ before read)
-
--- the buffer is full
-pub all_full : (a b : Option (List ℕ)) (buffer : List ℕ) (at : ℕ) → at ≤ length buffer → length buffer ≤ at → Consumes a b (take at buffer) → IfSome a (λ input. take at buffer ≡ take (length buffer) input)
-all_full None b buffer at within full read = tt
-all_full (Some input) None buffer at within full read = absurd read
-all_full (Some input) (Some rest) buffer at within full read =
-    sym (ap (take (length buffer)) read ∙ take_at (take at buffer) rest (length buffer) (omega (arith, length-take-le at buffer within)))
-
--- the input ended
-pub all_read : (a b : Option (List ℕ)) (buffer : List ℕ) (at : ℕ) → at ≤ length buffer → IsAtEnd b → Consumes a b (take at buffer) → IfSome a (λ input. take at buffer ≡ take (length buffer) input)
-all_read None b buffer at within end read = tt
-all_read (Some input) None buffer at within end read = absurd read
-all_read (Some input) (Some rest) buffer at within end read =
-    let whole : input ≡ take at buffer = read ∙ ap (λ l. take at buffer ++ l) end ∙ append-nil (take at buffer) in
-    sym whole ∙ sym (take_all (length buffer) input (omega (arith, ap length whole, length-take-le at buffer within)))

@@ -1,6 +1,5 @@
 -- Each edge is computed; the book after 1,024 enters is found by induction.
-use Rattle.std.proofs.Common.{◌≡◌, ℕ, zero, suc, ◌+◌, ◌<◌, Bool, true, false, cond, not, List, [], ◌∷◌, ◌++◌, length, map, replicate, Result, Ok, Err, refl, ap, ◌∙◌, sym, arith, length-append}
-use Rattle.std.specs.Prelude.{nat_le, nat_lt}
+use Rattle.std.proofs.Common.{◌≡◌, ℕ, zero, suc, ◌+◌, ◌<◌, List, [], ◌∷◌, ◌++◌, length, map, replicate, Ok, refl, ap, ◌∙◌, sym, arith, length-append}
 use Rattle.std.specs.List.{AllByRecursion, range_with_len}
 use Rattle.std.proofs.lemmas.Bool.Decides.{nat_tests}
 use Rattle.book.specs.declared.calls.Call.{Call}
@@ -9,15 +8,11 @@ use Rattle.book.specs.declared.pairs.Pair.{Pair}
 use Rattle.book.specs.declared.pairs.Entry.{Entry}
 use Rattle.book.specs.declared.book.Book.{Book}
 use Rattle.book.specs.Pairs.{entered}
-use Rattle.book.specs.Calls.{Answer, answer_number}
+use Rattle.book.specs.Calls.{answer_number}
 use Rattle.book.specs.Answers.{answer_to}
 use Rattle.book.specs.Book.{accepted_after, fresh_book}
-use Rattle.book.specs.Rows.{is_closed, row_answer}
-use Rattle.book.specs.declared.rows.Row.{Row}
-use Rattle.book.specs.declared.calls.Refusal.{Refusal}
-use Rattle.book.specs.declared.calls.Refusal.TheVariants.{OutOfRange, NotClosed}
 use Rattle.history.specs.Sums.{in_measure}
-use Rattle.exact.specs.PlainSums.{row_at}
+use Rattle.exact.proofs.Plain.{given_row}
 use Rattle.balance.specs.DailyBalance.{rows_of, fails, ArePrevious, newly_due, cancelled, part_settled}
 use Rattle.history.specs.History.{answers}
 use Rattle.edges.specs.Worked.{WorkedHolds, SidesAreTheBalance, before, calls_of, numbers_of, worked_when_full}
@@ -42,31 +37,22 @@ length_to (suc n) = let e = length_to n in let f = length-append (pairs_to n) (e
 
 accepted : (n : ℕ) → n < 1024 → answer_to (enter_of (suc n)) (book_to n) ≡ Ok tt
 unfolding book_to
-accepted n l =
-    let low : nat_le 1 (suc n) ≡ true = grind (arith, nat_tests) in
-    let high : nat_le (suc n) 65535 ≡ true = grind (arith, nat_tests) in
-    let above : nat_le (suc n) n ≡ false = grind (arith, nat_tests) in
-    let e = length_to n in
-    let room : nat_le 1024 (length (pairs_to n)) ≡ false = grind (arith, nat_tests) in
-    rw (low, high, above, room) refl
+accepted n l = let size = length_to n in grind (arith, nat_tests)
 
 entered_next : (n : ℕ) → accepted_after (enter_of (suc n)) (book_to n) ≡ book_to (suc n)
 unfolding book_to pairs_to entry_to
 entered_next n = refl
 
-enters : (k n m : ℕ) (calls : List Call) → m ≡ suc n → n + k ≡ 1024 → answers (map enter_of (range_with_len m k) ++ calls) (book_to n) ≡ replicate k (Ok tt) ++ answers calls (book_to 1024)
+enters : (k n m : ℕ) (calls : List Call) → m ≡ suc n → n + k ≡ 1024
+    → map answer_number (answers (map enter_of (range_with_len m k) ++ calls) (book_to n)) ≡ replicate k 0 ++ map answer_number (answers calls (book_to 1024))
 enters zero n m calls s h = let e : n ≡ 1024 = omega arith in rw e refl
 enters (suc k) n m calls s h =
     let later = enters k (suc n) (suc n + 1) calls (omega arith) (omega arith) in
-    rw s (rw (accepted n (omega arith), entered_next n) (ap (λ (given : List Answer). Ok tt ∷ given) later))
-
-accepted_numbers : (k : ℕ) (given : List Answer) → map answer_number (replicate k (Ok tt) ++ given) ≡ replicate k 0 ++ map answer_number given
-accepted_numbers zero given = refl
-accepted_numbers (suc k) given = ap (λ (ns : List ℕ). 0 ∷ ns) (accepted_numbers k given)
+    rw s (rw (accepted n (omega arith), entered_next n) (ap (λ (ns : List ℕ). 0 ∷ ns) later))
 
 when_full : (calls : List Call) (given : List ℕ) → map answer_number (answers calls (book_to 1024)) ≡ given → Claim (gives_when_full calls given)
 unfolding book_to pairs_to
-when_full calls given e = ap (λ (given : List Answer). map answer_number given) (enters 1024 0 1 calls refl refl) ∙ accepted_numbers 1024 (answers calls (book_to 1024)) ∙ ap (λ (ns : List ℕ). replicate 1024 0 ++ ns) e
+when_full calls given e = enters 1024 0 1 calls refl refl ∙ ap (λ (ns : List ℕ). replicate 1024 0 ++ ns) e
 
 -- ---- the edges
 
@@ -74,24 +60,15 @@ pub all_edges : AllByRecursion Claim edges
 unfolding book_to pairs_to entry_to
 all_edges = (when_full (enter_of 1025 ∷ []) (4 ∷ []) refl, (when_full (Settle 700 100 ∷ enter_of 1025 ∷ []) (0 ∷ 0 ∷ []) refl, (refl, (refl, (refl, (refl, (refl, (refl, (refl, (refl, (refl, (refl, (refl, (refl, (refl, (refl, (refl, (when_full (enter_of 1025 ∷ Settle 700 100 ∷ enter_of 1025 ∷ []) (4 ∷ 0 ∷ 0 ∷ []) refl, (refl, (refl, (refl, tt)))))))))))))))))))))
 
--- the row that is given is the book's
-given_row : (b : Book) (d c : ℕ) (r : Row) → row_answer d c b ≡ Ok r → row_at b d c ≡ r
-given_row b d c r given = by (nat_lt 9 c) (is_closed d b) given
-  where
-    by : (over day : Bool) → ◌≡◌ {A = Result Row Refusal} (cond over (Err OutOfRange) (cond (not day) (Err NotClosed) (Ok (row_at b d c)))) (Ok r) → row_at b d c ≡ r
-    by true day g = absurd (cc)
-    by false false g = absurd (cc)
-    by false true g = cc
-
 sides : SidesAreTheBalance
 sides m b h day category x = (
-  ap (λ r. in_measure m r.settled + fails m r + cancelled m category day h) (given_row b day category x.row x.given),
+  ap (λ r. in_measure m r.settled + fails m r + cancelled m category day h) (given_row b day category x.row x.given).2,
   ap (λ n. n + newly_due m category day h + part_settled m category day h) (previous day x.previous x.are_previous),
 )
   where
     previous : (day n : ℕ) → ArePrevious m category day (rows_of b) n → before m b day category ≡ n
     previous zero n none = sym none
-    previous (suc d) n y = ap (fails m) (given_row b d category y.0 y.1) ∙ y.2
+    previous (suc d) n y = ap (fails m) (given_row b d category y.0 y.1).2 ∙ y.2
 
 pub worked_holds : WorkedHolds
 unfolding book_to pairs_to entry_to

@@ -1,7 +1,10 @@
 -- Ids: each open pair has one entry, and no two open pairs share one.
-use Rattle.std.proofs.Common.{◌≡◌, ◌≢◌, ◌⊎◌, ℕ, ◌+◌, ◌<◌, ◌≤◌, Bool, true, false, cond, List, [], ◌∷◌, ◌++◌, filter, Some, refl, ap, ◌∙◌, sym, arith}
+use Rattle.std.proofs.Common.{◌≡◌, ◌≢◌, ◌⊎◌, ℕ, ◌+◌, ◌<◌, ◌≤◌, true, false, List, [], ◌∷◌, ◌++◌, length, length-append, filter, None, Some, refl, arith}
 use Rattle.std.specs.Prelude.{if◌then◌else◌, ◌==◌}
-use Rattle.std.specs.List.{find, AllByRecursion}
+use Rattle.std.specs.List.{AllByRecursion}
+use Rattle.std.proofs.lemmas.List.{nil_from_length}
+use Rattle.std.proofs.lemmas.List.Elements.{filter-append}
+use Rattle.std.proofs.lemmas.Bool.{cond_both}
 use Rattle.std.proofs.lemmas.Bool.Decides.{nat_tests}
 use Rattle.book.specs.declared.calls.Call.{Call}
 use Rattle.book.specs.declared.pairs.Entry.{Entry}
@@ -54,43 +57,41 @@ not_before i d (call ∷ h) n = rw n.0 (not_before i d h n.1)
 
 -- ---- the open pairs
 
+-- no two share an id
 abbrev pub AreApart : List Pair → Type 0
-AreApart [] = Unit {0}
-AreApart (p ∷ ps) = AllByRecursion (λ q. q.id ≢ p.id) ps × AreApart ps
+AreApart ps = (i : ℕ) → length (filter (has_id i) ps) ≤ 1
 
 pub id-pair_of : (id : ℕ) (ps : List Pair) (p : Pair) → pair_of id ps ≡ Some p → p.id ≡ id
 id-pair_of id [] p h = absurd (cc)
-id-pair_of id (q ∷ ps) p h = at_first (q.id == id) refl h (λ k. id-pair_of id ps p k)
-  where
-    at_first : (b : Bool) → (q.id == id) ≡ b → cond b (Some q) (find (has_id id) ps) ≡ Some p → (find (has_id id) ps ≡ Some p → p.id ≡ id) → p.id ≡ id
-    at_first true e h k = let same : q ≡ p = cc in let i : q.id ≡ id = grind (arith, nat_tests) in sym (ap (λ (x : Pair). x.id) same) ∙ i
-    at_first false e h k = k h
+id-pair_of id (q ∷ ps) p h = grind (arith, nat_tests, id-pair_of id ps p)
 
--- the pairs of its id are it alone
+-- no pair has an id above the last
+pub none_above : (last i : ℕ) (ps : List Pair) → AllByRecursion (λ p. p.id ≤ last) ps → last < i → filter (has_id i) ps ≡ []
+none_above last i [] a l = refl
+none_above last i (p ∷ ps) a l = grind (arith, nat_tests, a.0, none_above last i ps a.1 l)
+
+pub none_found : (last i : ℕ) (ps : List Pair) → AllByRecursion (λ p. p.id ≤ last) ps → last < i → pair_of i ps ≡ None
+none_found last i [] a l = refl
+none_found last i (p ∷ ps) a l = grind (arith, nat_tests, a.0, none_found last i ps a.1 l)
+
+-- where an id has no pair, and where it has one
+pub filter_none : (id : ℕ) (ps : List Pair) → pair_of id ps ≡ None → filter (has_id id) ps ≡ []
+filter_none id [] f = refl
+filter_none id (q ∷ ps) f = grind (arith, filter_none id ps)
+
 pub filter-has_id : (id : ℕ) (ps : List Pair) (p : Pair) → pair_of id ps ≡ Some p → AreApart ps → filter (has_id id) ps ≡ p ∷ []
-filter-has_id id [] p f a = absurd (cc)
-filter-has_id id (q ∷ ps) p f a = by (q.id == id) refl f (λ g. filter-has_id id ps p g a.1)
+filter-has_id id ps p f a = alone ps f (a id)
   where
-    nothing : (qs : List Pair) → q.id ≡ id → AllByRecursion (λ x. x.id ≢ q.id) qs → filter (has_id id) qs ≡ []
-    nothing [] e n = refl
-    nothing (x ∷ qs) e n = let d : (x.id == id) ≡ false = differ x.id n.0 e in rw d (nothing qs e n.1)
-      where
-        differ : (j : ℕ) → j ≢ q.id → q.id ≡ id → (j == id) ≡ false
-        differ j n e = grind (arith, nat_tests)
-
-    by : (b : Bool) → (q.id == id) ≡ b → cond b (Some q) (find (has_id id) ps) ≡ Some p → (find (has_id id) ps ≡ Some p → filter (has_id id) ps ≡ p ∷ [])
-        → cond b (q ∷ filter (has_id id) ps) (filter (has_id id) ps) ≡ p ∷ []
-    by true e g later =
-        let same : q ≡ p = cc in
-        let own : q.id ≡ id = grind (arith, nat_tests) in
-        rw (nothing ps own a.0) (ap (λ (x : Pair). x ∷ []) same)
-    by false e g later = later g
+    alone : (ps : List Pair) → pair_of id ps ≡ Some p → length (filter (has_id id) ps) ≤ 1 → filter (has_id id) ps ≡ p ∷ []
+    alone [] f l = absurd (cc)
+    alone (q ∷ ps) f l = grind (arith, nat_tests, nil_from_length (filter (has_id id) ps), alone ps)
 
 pub all-map : {X : Type 0} (P Q : X → Type 0) (xs : List X) → ((x : X) → P x → Q x) → AllByRecursion P xs → AllByRecursion Q xs
 all-map P Q [] f a = tt
 all-map P Q (x ∷ xs) f a = (f x a.0, all-map P Q xs f a.1)
 
-pub all-both : {X : Type 0} (P R Q : X → Type 0) (xs : List X) → ((x : X) → P x → R x → Q x) → AllByRecursion P xs → AllByRecursion R xs → AllByRecursion Q xs
+pub all-both : {X : Type 0} (P R Q : X → Type 0) (xs : List X) → ((x : X) → P x → R x → Q x) → AllByRecursion P xs → AllByRecursion R xs
+    → AllByRecursion Q xs
 all-both P R Q [] f a b = tt
 all-both P R Q (x ∷ xs) f a b = (f x a.0 b.0, all-both P R Q xs f a.1 b.1)
 
@@ -99,44 +100,29 @@ all-append P [] ys a b = b
 all-append P (x ∷ xs) ys a b = (a.0, all-append P xs ys a.1 b)
 
 -- what holds of the pair that changes, and of each other
-pub all_changed : (P Q : Pair → Type 0) (id : ℕ) (f : Pair → List Pair) (ps : List Pair) → AllByRecursion P ps → AreApart ps
+pub all_changed : (P Q : Pair → Type 0) (id : ℕ) (f : Pair → List Pair) (ps : List Pair) → AllByRecursion P ps → length (filter (has_id id) ps) ≤ 1
     → ((q : Pair) → q.id ≢ id → P q → Q q)
     → ((p : Pair) → pair_of id ps ≡ Some p → P p → AllByRecursion Q (f p))
     → AllByRecursion Q (changed id f ps)
-all_changed P Q id f [] a r other own = tt
-all_changed P Q id f (q ∷ ps) a r other own = at_first (q.id == id) refl own (λ l. all_changed P Q id f ps a.1 r.1 other l)
+all_changed P Q id f [] a one other own = tt
+all_changed P Q id f (q ∷ ps) a one other own =
+    cond_both (q.id == id) (f q ++ ps) (q ∷ changed id f ps) (AllByRecursion Q)
+    (λ e. all-append Q (f q) ps (own q (rw e refl) a.0) (others ps a.1 (grind (arith, nat_tests))))
+    (λ e. (other q (grind (arith, nat_tests)) a.0, all_changed P Q id f ps a.1 (grind (arith, nat_tests)) other (λ p g. own p (rw e g))))
   where
-    at_first : (b : Bool) → (q.id == id) ≡ b
-        → ((p : Pair) → cond b (Some q) (find (has_id id) ps) ≡ Some p → P p → AllByRecursion Q (f p))
-        → (((p : Pair) → find (has_id id) ps ≡ Some p → P p → AllByRecursion Q (f p)) → AllByRecursion Q (changed id f ps))
-        → AllByRecursion Q (if b then f q ++ ps else q ∷ changed id f ps)
-    at_first true e own k =
-        let i : q.id ≡ id = grind (arith, nat_tests) in
-        all-append Q (f q) ps (own q refl a.0) (all-both P (λ x. x.id ≢ q.id) Q ps (λ x y ne. other x (λ same. ne (same ∙ sym i)) y) a.1 r.0)
-    at_first false e own k = let ne : q.id ≢ id = grind (arith, nat_tests) in (other q ne a.0, k own)
+    others : (ps : List Pair) → AllByRecursion P ps → length (filter (has_id id) ps) ≤ 0 → AllByRecursion Q ps
+    others [] a l = tt
+    others (p ∷ ps) a l = (other p (grind (arith, nat_tests)) a.0, others ps a.1 (grind (arith, nat_tests)))
 
 -- a change that leaves the pair under its id, or nothing
-pub record KeepsId (f : Pair → List Pair) : Type 0 where
-  pub same : (k : ℕ) (p : Pair) → p.id ≢ k → AllByRecursion (λ q. q.id ≢ k) (f p)
-  pub apart : (p : Pair) (ps : List Pair) → AllByRecursion (λ q. q.id ≢ p.id) ps → AreApart ps → AreApart (f p ++ ps)
-
-pub apart_from : (k id : ℕ) (f : Pair → List Pair) (ps : List Pair) → KeepsId f → AllByRecursion (λ q. q.id ≢ k) ps → AllByRecursion (λ q. q.id ≢ k) (changed id f ps)
-apart_from k id f [] s a = tt
-apart_from k id f (q ∷ ps) s a = at_first (has_id id q) (apart_from k id f ps s a.1)
+pub apart_changed : (id : ℕ) (f : Pair → List Pair) (ps : List Pair)
+    → ((i : ℕ) (p : Pair) → length (filter (has_id i) (f p)) ≤ (if has_id i p then 1 else 0)) → AreApart ps → AreApart (changed id f ps)
+apart_changed id f ps under apart i = omega (arith, fewer ps, apart i)
   where
-    at_first : (b : Bool) → AllByRecursion (λ r. r.id ≢ k) (changed id f ps) → AllByRecursion (λ r. r.id ≢ k) (if b then f q ++ ps else q ∷ changed id f ps)
-    at_first true l = all-append (λ r. r.id ≢ k) (f q) ps (s.same k q a.0) a.1
-    at_first false l = (a.0, l)
-
-pub apart_changed : (id : ℕ) (f : Pair → List Pair) (ps : List Pair) → KeepsId f → AreApart ps → AreApart (changed id f ps)
-apart_changed id f [] s r = tt
-apart_changed id f (q ∷ ps) s r = at_first (has_id id q) (apart_changed id f ps s r.1)
-  where
-    at_first : (b : Bool) → AreApart (changed id f ps) → AreApart (if b then f q ++ ps else q ∷ changed id f ps)
-    at_first true l = s.apart q ps r.0 r.1
-    at_first false l = (apart_from q.id id f ps s r.0, l)
+    fewer : (ps : List Pair) → length (filter (has_id i) (changed id f ps)) ≤ length (filter (has_id i) ps)
+    fewer [] = omega arith
+    fewer (p ∷ ps) = grind (arith, under i p, fewer ps, filter-append (has_id i) (f p) ps, length-append (filter (has_id i) (f p)) (filter (has_id i) ps))
 
 -- one more pair, under a new id
-pub apart_push : (ps : List Pair) (p : Pair) → AllByRecursion (λ q. q.id < p.id) ps → AreApart ps → AreApart (ps ++ p ∷ [])
-apart_push [] p a r = (tt, tt)
-apart_push (q ∷ ps) p a r = (all-append (λ x. x.id ≢ q.id) ps (p ∷ []) r.0 (omega (arith, a.0), tt), apart_push ps p a.1 r.1)
+pub apart_push : (last : ℕ) (ps : List Pair) (p : Pair) → AllByRecursion (λ q. q.id ≤ last) ps → last < p.id → AreApart ps → AreApart (ps ++ p ∷ [])
+apart_push last ps p a l apart i = grind (arith, nat_tests, apart i, none_above last i ps a, filter-append (has_id i) ps (p ∷ []), length-append (filter (has_id i) ps))

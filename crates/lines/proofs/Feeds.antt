@@ -1,6 +1,7 @@
 -- A line's LF is its last byte, so the first LF of a text ends its first line, a wrong one too: up to its first wrong byte a
 -- wrong line begins a correct one.
-use Rattle.std.proofs.Common.{◌≡◌, ℕ, zero, suc, ◌+◌, ◌^◌, ◌<◌, ◌≤◌, ◌⊎◌, inl, inr, List, [], ◌∷◌, ◌++◌, Bool, true, false, length, take, drop, map, refl, sym, ◌∙◌, ap, subst, ⊎_elim, append_assoc, arith, length-append, length-drop}
+use Rattle.std.proofs.Common.{◌≡◌, ℕ, zero, suc, ◌+◌, ◌^◌, ◌<◌, ◌≤◌, List, [], ◌∷◌, ◌++◌, length, min, take, drop, map, refl, sym, ◌∙◌, ap, subst, ⊎_elim, append_assoc, arith, length-append, length-drop}
+use Rattle.std.specs.Prelude.{not}
 use Rattle.std.specs.List.{AllByRecursion, after_first, position_or_len, join_with_byte}
 use Rattle.std.specs.Fmt.{decimal}
 use Rattle.std.specs.Str.Parse.{AllDigits}
@@ -8,98 +9,104 @@ use Rattle.std.proofs.lemmas.Bool.{cases_lt}
 use Rattle.std.proofs.lemmas.Bool.Decides.{nat_tests}
 use Rattle.std.proofs.lemmas.Fmt.{decimal_is_IsNumeral}
 use Rattle.std.proofs.lemmas.Str.Parse.{digit_from_value}
-use Rattle.std.proofs.lemmas.List.{append-nil, append_cancel_right, drop-append-le, drop-drop, drop_all, take_at, take-append-le}
+use Rattle.std.proofs.lemmas.List.{append-nil, drop-drop, drop_at, drop_all, length-take, take_all, take_at, take-append-drop, take-append-le}
+use Rattle.std.proofs.Math.Nat.{sub-zero}
+use Rattle.std.proofs.lemmas.List.Folds.{prefix_len-append}
+use Rattle.std.proofs.lemmas.List.Sums.{prefix_len-le-length}
 use Rattle.book.specs.declared.calls.Call.{Call}
 use Rattle.lines.specs.declared.reader.Line.{Line}
 use Rattle.lines.specs.declared.reader.Line.TheVariants.{Correct, Wrong}
 use Rattle.lines.specs.Grammar.{Begins, IsLine, IsFirstWrongPlace, HasShortFields, fields_of, line_of}
 use Rattle.lines.specs.Reading.{is_line_feed, IsLineAt, GoesOn}
 use Rattle.lines.specs.Texts.{cut, IsReadAlone}
-
--- ---- bytes with no LF
-
-abbrev pub HasNoFeed : List ℕ → Type 0
-HasNoFeed = AllByRecursion (λ byte. is_line_feed byte ≡ false)
-
-no_feed-append : (xs ys : List ℕ) → HasNoFeed xs → HasNoFeed ys → HasNoFeed (xs ++ ys)
-no_feed-append [] ys no_xs no_ys = no_ys
-no_feed-append (x ∷ xs) ys no_xs no_ys = (no_xs.0, no_feed-append xs ys no_xs.1 no_ys)
-
-no_feed-drop : (n : ℕ) (xs : List ℕ) → HasNoFeed xs → HasNoFeed (drop n xs)
-no_feed-drop zero xs no_xs = no_xs
-no_feed-drop (suc n) [] no_xs = tt
-no_feed-drop (suc n) (x ∷ xs) no_xs = no_feed-drop n xs no_xs.1
-
-no_feed_digits : (ds : List ℕ) → AllDigits 10 ds → HasNoFeed ds
-no_feed_digits [] all = tt
-no_feed_digits (d ∷ ds) all = (let digit = digit_from_value d all.0 in grind (arith, nat_tests), no_feed_digits ds all.1)
-
-no_feed_decimal : (n : ℕ) → n < 10 ^ 11 → HasNoFeed (decimal n)
-no_feed_decimal n short = no_feed_digits (decimal n) (decimal_is_IsNumeral n (omega arith)).0.1
-
-no_feed_fields : (fs : List ℕ) → AllByRecursion (λ n. n < 10 ^ 11) fs → HasNoFeed (join_with_byte 44 (map decimal fs))
-no_feed_fields [] short = tt
-no_feed_fields (n ∷ []) short = no_feed_decimal n short.0
-no_feed_fields (n ∷ m ∷ fs) short = no_feed-append (decimal n) (44 ∷ join_with_byte 44 (map decimal (m ∷ fs))) (no_feed_decimal n short.0) (refl, no_feed_fields (m ∷ fs) short.1)
+use Rattle.lines.proofs.Places.{correct_at}
 
 -- ---- the first LF
 
--- a text is cut at its first LF, or has none
-pub record IsCutAt (text front rest : List ℕ) : Type 0 where
-  pub none : HasNoFeed front
-  pub whole : text ≡ front ++ 10 ∷ rest
+-- its place, and the text's length where there is none
+abbrev pub feed_place : List ℕ → ℕ
+feed_place = position_or_len is_line_feed
 
-first_feed : (text : List ℕ) → HasNoFeed text ⊎ ((front : List ℕ) × (rest : List ℕ) × IsCutAt text front rest)
-first_feed [] = inl tt
-first_feed (byte ∷ bytes) = go (is_line_feed byte) refl (first_feed bytes) where
-  go : (t : Bool) → is_line_feed byte ≡ t → HasNoFeed bytes ⊎ ((front : List ℕ) × (rest : List ℕ) × IsCutAt bytes front rest)
-      → HasNoFeed (byte ∷ bytes) ⊎ ((front : List ℕ) × (rest : List ℕ) × IsCutAt (byte ∷ bytes) front rest)
-  go true e more = inr ([], bytes, record { none = tt; whole = ap (λ b. b ∷ bytes) (let same : byte ≡ 10 = grind (arith, nat_tests) in same) })
-  go false e more = ⊎_elim
-      (λ none. inl (e, none))
-      (λ found. inr (byte ∷ found.0, found.1, record { none = (e, found.2.none); whole = ap (λ l. byte ∷ l) found.2.whole }))
-      more
+feed-le : (text : List ℕ) → feed_place text ≤ length text
+feed-le text = prefix_len-le-length (λ byte. not (is_line_feed byte)) text
 
--- a byte is passed over
-drop_next : (n x : ℕ) (xs : List ℕ) → drop (1 + n + 1) (x ∷ xs) ≡ drop (n + 1) xs
-drop_next n x xs = ap (λ m. drop m (x ∷ xs)) (let e : 1 + n + 1 ≡ suc (n + 1) = omega arith in e)
+-- behind bytes with no LF
+feed-append : (xs ys : List ℕ) → feed_place xs ≡ length xs → feed_place (xs ++ ys) ≡ length xs + feed_place ys
+feed-append xs ys none = let e = prefix_len-append (λ byte. not (is_line_feed byte)) xs ys in grind (arith, nat_tests)
 
-after_feed : (front rest : List ℕ) → HasNoFeed front → after_first is_line_feed (front ++ 10 ∷ rest) ≡ rest
-after_feed [] rest none = refl
-after_feed (x ∷ front) rest none = rw none.0 (drop_next (position_or_len is_line_feed (front ++ 10 ∷ rest)) x (front ++ 10 ∷ rest) ∙ after_feed front rest none.1)
+-- of so many bytes
+feed-take : (n : ℕ) (text : List ℕ) → feed_place (take n text) ≡ min n (feed_place text)
+feed-take zero text = omega arith
+feed-take (suc n) [] = omega arith
+feed-take (suc n) (x ∷ xs) = grind (arith, nat_tests, feed-take n xs)
 
-after_none : (text : List ℕ) → HasNoFeed text → after_first is_line_feed text ≡ []
-after_none [] none = refl
-after_none (x ∷ text) none = rw none.0 (drop_next (position_or_len is_line_feed text) x text ∙ after_none text none.1)
+-- behind some bytes in front of it
+feed-drop : (n : ℕ) (text : List ℕ) → n ≤ feed_place text → n + feed_place (drop n text) ≡ feed_place text
+feed-drop n text within =
+    let long : length (take n text) ≡ n = omega (arith, length-take n text, feed-le text) in
+    let none : feed_place (take n text) ≡ length (take n text) = omega (arith, feed-take n text) in
+    omega (arith, sym (feed-append (take n text) (drop n text) none) ∙ ap feed_place (take-append-drop n text))
 
-cut_feed : (front rest : List ℕ) → HasNoFeed front → cut (front ++ 10 ∷ rest) ≡ (front ++ 10 ∷ []) ∷ cut rest
-cut_feed [] rest none = refl
-cut_feed (x ∷ front) rest none = rw (none.0, cut_feed front rest none.1)
+-- a text's first piece, its LF included
+abbrev pub first_piece : List ℕ → List ℕ
+first_piece text = take (suc (feed_place text)) text
 
-cut_none : (x : ℕ) (front : List ℕ) → HasNoFeed (x ∷ front) → cut (x ∷ front) ≡ (x ∷ front) ∷ []
-cut_none x [] none = rw none.0
-cut_none x (y ∷ front) none = rw (none.0, cut_none y front none.1)
+-- a text with a byte is cut there first
+pub cut_first : (text : List ℕ) → 0 < length text → cut text ≡ first_piece text ∷ cut (after_first is_line_feed text)
+cut_first [] some = absurd (omega arith)
+cut_first (byte ∷ []) some = grind (arith, nat_tests)
+cut_first (byte ∷ next ∷ more) some = grind (arith, nat_tests, cut_first (next ∷ more) (omega arith))
 
 -- ---- a line
 
-line_feed_last : (front more fields : List ℕ) → HasNoFeed front → HasNoFeed fields → front ++ 10 ∷ more ≡ fields ++ 10 ∷ [] → front ≡ fields
-line_feed_last front more fields none no_fields e =
-    let nothing : more ≡ [] = sym (after_feed front more none) ∙ ap (after_first is_line_feed) e ∙ after_feed fields [] no_fields in
-    append_cancel_right front fields (10 ∷ []) (ap (λ m. front ++ 10 ∷ m) (sym nothing) ∙ e)
+-- a line's fields have no LF
+no_feed_digits : (ds : List ℕ) → AllDigits 10 ds → feed_place ds ≡ length ds
+no_feed_digits [] all = refl
+no_feed_digits (d ∷ ds) all = let digit = digit_from_value d all.0 in grind (arith, nat_tests, no_feed_digits ds all.1)
+
+no_feed_fields : (fs : List ℕ) → AllByRecursion (λ n. n < 10 ^ 11) fs → feed_place (join_with_byte 44 (map decimal fs)) ≡ length (join_with_byte 44 (map decimal fs))
+no_feed_fields [] short = refl
+no_feed_fields (n ∷ []) short = no_feed_digits (decimal n) (decimal_is_IsNumeral n (omega (arith, short.0))).0.1
+no_feed_fields (n ∷ m ∷ fs) short =
+    let more = join_with_byte 44 (map decimal (m ∷ fs)) in
+    feed-append (decimal n) (44 ∷ more) (no_feed_digits (decimal n) (decimal_is_IsNumeral n (omega (arith, short.0))).0.1)
+    ∙ omega (arith, no_feed_fields (m ∷ fs) short.1, length-append (decimal n) (44 ∷ more))
+
+-- its LF is its last byte
+pub feed_last : (call : Call) (rest : List ℕ) → HasShortFields call → suc (feed_place (line_of call ++ rest)) ≡ length (line_of call)
+feed_last call rest short =
+    let fields = join_with_byte 44 (map decimal (fields_of call)) in
+    let split = append_assoc fields (10 ∷ []) rest in
+    omega (arith, ap feed_place split ∙ feed-append fields (10 ∷ rest) (no_feed_fields (fields_of call) short), length-append fields (10 ∷ []))
 
 -- no LF stands before the first wrong byte
-wrong_before_feed : (text front rest : List ℕ) (place : ℕ) → IsCutAt text front rest → IsFirstWrongPlace IsLine text place → place ≤ length front
-wrong_before_feed text front rest place cut_at wrong = ⊎_elim
-    (λ behind. absurd (
-    let front_is : take (suc (length front)) text ≡ front ++ 10 ∷ [] =
-    ap (take (suc (length front))) (cut_at.whole ∙ sym (append_assoc front (10 ∷ []) rest)) ∙ take_at (front ++ 10 ∷ []) rest (suc (length front)) (omega (arith, length-append front (10 ∷ []))) in
-    let begins = wrong.before (length front) behind in
+wrong_before_feed : (text : List ℕ) (place : ℕ) → IsFirstWrongPlace IsLine text place → place ≤ feed_place text
+wrong_before_feed text place wrong = ⊎_elim
+    (λ passed. absurd (
+    let piece = first_piece text in
+    let begins = wrong.before (feed_place text) passed in
     let line = begins.1 in
-    let whole : front ++ 10 ∷ begins.0 ≡ line_of line.call = sym (append_assoc front (10 ∷ []) begins.0) ∙ ap (λ f. f ++ begins.0) (sym front_is) ∙ line.whole in
-    let same : front ≡ join_with_byte 44 (map decimal (fields_of line.call)) = line_feed_last front begins.0 _ cut_at.none (no_feed_fields (fields_of line.call) line.short) whole in
-    wrong.unread (front ++ 10 ∷ []) rest (record { call = line.call; short = line.short; whole = ap (λ f. f ++ 10 ∷ []) same }) (cut_at.whole ∙ sym (append_assoc front (10 ∷ []) rest))))
-    (λ before. before)
-    (cases_lt (length front) place)
+    let whole : piece ++ begins.0 ≡ line_of line.call = line.whole in
+    let in_front = feed-take (suc (feed_place text)) text in
+    let in_word = prefix_len-append (λ byte. not (is_line_feed byte)) piece begins.0 in
+    let last = rw (append-nil (line_of line.call), ← whole) at (feed_last line.call [] line.short) in
+    let nothing : begins.0 ≡ [] = sym (take_all 0 begins.0 (grind (arith, nat_tests, length-append, length-take, wrong.within))) in
+    wrong.unread piece (drop (suc (feed_place text)) text)
+    (record { call = line.call; short = line.short; whole = sym (append-nil piece) ∙ rw nothing at whole }) (sym (take-append-drop (suc (feed_place text)) text))))
+    (λ within. within)
+    (cases_lt (feed_place text) place)
+
+-- where reading goes on: behind the first LF from the line's start on
+pub behind_feed : (text : List ℕ) (at : ℕ) (line : Line) (next : ℕ) → IsLineAt text at line next → drop next text ≡ after_first is_line_feed (drop at text)
+behind_feed text at (Correct call) next read =
+    let line = drop at text in
+    let passed : feed_place line + 1 ≡ length (line_of call) = omega (arith, ap feed_place read.is_read.1, feed_last call (drop next text) read.is_read.0) in
+    sym (ap (drop (feed_place line + 1)) read.is_read.1 ∙ drop_at (line_of call) (drop next text) (feed_place line + 1) (sym passed))
+behind_feed text at (Wrong place) next read =
+    let line = drop at text in
+    let passed = feed-drop place line (wrong_before_feed line place read.is_read.0) in
+    let from_place = read.is_read.1 in
+    grind (arith, drop-drop)
 
 -- the first wrong byte of a text is that of its piece
 in_piece : (text piece rest : List ℕ) (place : ℕ) → text ≡ piece ++ rest → place ≤ length piece → IsFirstWrongPlace IsLine text place → IsFirstWrongPlace IsLine piece place
@@ -112,82 +119,33 @@ in_piece text piece rest place whole within wrong = record {
   front_of : (n : ℕ) → n ≤ length piece → take n text ≡ take n piece
   front_of n fits = ap (take n) whole ∙ take-append-le n piece rest fits
 
--- the first line of a text: its first piece, read by itself, and what is left
-pub record IsPiece (text : List ℕ) (line : Line) (left : List ℕ) : Type 0 where
-  pub piece : List ℕ
-  pub cut_is : cut text ≡ piece ∷ cut left
-  pub alone : IsReadAlone piece line
-  pub behind : left ≡ after_first is_line_feed text
-
--- a correct one
-correct_piece : (text left : List ℕ) (call : Call) → HasShortFields call → text ≡ line_of call ++ left → IsPiece text (Correct call) left
-correct_piece text left call short whole =
-    let fields = join_with_byte 44 (map decimal (fields_of call)) in
-    let no_feed : HasNoFeed fields = no_feed_fields (fields_of call) short in
-    let split : text ≡ fields ++ 10 ∷ left = whole ∙ append_assoc fields (10 ∷ []) left in
-    let some : 0 < length (line_of call) = omega (arith, length-append fields (10 ∷ [])) in
+-- a line read by itself
+pub read_alone : (text : List ℕ) (at : ℕ) (line : Line) (next : ℕ) → IsLineAt text at line next → IsReadAlone (first_piece (drop at text)) line
+read_alone text at (Correct call) next read =
+    let last = feed_last call (drop next text) read.is_read.0 in
+    let piece_is : first_piece (drop at text) ≡ line_of call = rw read.is_read.1 (take_at (line_of call) (drop next text) (suc (feed_place (line_of call ++ drop next text))) (sym last)) in
+    rw piece_is (rw (sub-zero (length (line_of call))) at (correct_at (line_of call) 0 call [] read.is_read.0 (sym (append-nil (line_of call)))))
+read_alone text at (Wrong place) next read =
+    let line = drop at text in
+    let piece = first_piece line in
+    let within : place ≤ feed_place line = wrong_before_feed line place read.is_read.0 in
+    let long : length piece ≡ min (suc (feed_place line)) (length line) = length-take (suc (feed_place line)) line in
+    let feed_is : feed_place piece ≡ feed_place line = omega (arith, feed-take (suc (feed_place line)) line) in
+    let behind : length (drop (0 + place) piece) ≤ feed_place (drop (0 + place) piece) + 1 = omega (arith, length-drop (0 + place) piece, feed-drop (0 + place) piece (omega arith)) in
     record {
-      piece = line_of call;
-      cut_is = ap cut split ∙ cut_feed fields left no_feed;
-      alone = record {
-        is_read = (short, sym (append-nil (line_of call)) ∙ ap (λ l. line_of call ++ l) (sym (drop_all (length (line_of call)) (line_of call) (omega arith))));
-        later = some;
-        within = omega arith;
-      };
-      behind = sym (ap (after_first is_line_feed) split ∙ after_feed fields left no_feed);
+      is_read = (
+        in_piece line piece (drop (suc (feed_place line)) line) place (sym (take-append-drop (suc (feed_place line)) line)) (omega (arith, feed-le line)) read.is_read.0,
+        drop_all (length piece) piece (omega arith) ∙ sym (drop_all (feed_place (drop (0 + place) piece) + 1) (drop (0 + place) piece) behind),
+      );
+      later = omega (arith, read.later, read.within, length-drop at text);
+      within = omega arith;
     }
 
--- a wrong one
-wrong_piece : (text left : List ℕ) (place : ℕ) → 0 < length text → IsFirstWrongPlace IsLine text place → left ≡ after_first is_line_feed (drop place text) → IsPiece text (Wrong place) left
-wrong_piece text left place some wrong left_is = ⊎_elim (λ none. last text some none wrong left_is) (λ found. more found.0 found.1 found.2) (first_feed text) where
-  last : (t : List ℕ) → 0 < length t → HasNoFeed t → IsFirstWrongPlace IsLine t place → left ≡ after_first is_line_feed (drop place t) → IsPiece t (Wrong place) left
-  last [] none_left none wrong left_is = absurd (omega arith)
-  last (x ∷ t) some none wrong left_is =
-      let nothing : left ≡ [] = left_is ∙ after_none (drop place (x ∷ t)) (no_feed-drop place (x ∷ t) none) in
-      record {
-        piece = x ∷ t;
-        cut_is = cut_none x t none ∙ ap (λ l. (x ∷ t) ∷ cut l) (sym nothing);
-        alone = record {
-          is_read = (wrong, drop_all (length (x ∷ t)) (x ∷ t) (omega arith) ∙ sym nothing ∙ left_is ∙ ap (λ n. after_first is_line_feed (drop n (x ∷ t))) (let e : place ≡ 0 + place = omega arith in e));
-          later = some;
-          within = omega arith;
-        };
-        behind = nothing ∙ sym (after_none (x ∷ t) none);
-      }
-
-  more : (front rest : List ℕ) → IsCutAt text front rest → IsPiece text (Wrong place) left
-  more front rest cut_at =
-      let before : place ≤ length front = wrong_before_feed text front rest place cut_at wrong in
-      let no_feed : HasNoFeed (drop place front) = no_feed-drop place front cut_at.none in
-      let piece = front ++ 10 ∷ [] in
-      let split : text ≡ piece ++ rest = cut_at.whole ∙ sym (append_assoc front (10 ∷ []) rest) in
-      let left_rest : left ≡ rest = left_is ∙ ap (λ t. after_first is_line_feed (drop place t)) cut_at.whole ∙ ap (after_first is_line_feed) (drop-append-le place front (10 ∷ rest) before) ∙ after_feed (drop place front) rest no_feed in
-      let nothing : after_first is_line_feed (drop (0 + place) piece) ≡ [] =
-      ap (λ n. after_first is_line_feed (drop n piece)) (let e : 0 + place ≡ place = omega arith in e) ∙ ap (after_first is_line_feed) (drop-append-le place front (10 ∷ []) before) ∙ after_feed (drop place front) [] no_feed in
-      record {
-        piece = piece;
-        cut_is = ap cut cut_at.whole ∙ cut_feed front rest cut_at.none ∙ ap (λ l. piece ∷ cut l) (sym left_rest);
-        alone = record {
-          is_read = (in_piece text piece rest place split (omega (arith, length-append front (10 ∷ []))) wrong, drop_all (length piece) piece (omega arith) ∙ sym nothing);
-          later = omega (arith, length-append front (10 ∷ []));
-          within = omega arith;
-        };
-        behind = left_rest ∙ sym (ap (after_first is_line_feed) cut_at.whole ∙ after_feed front rest cut_at.none);
-      }
-
--- the line at a place
-pub piece_at : (text : List ℕ) (at : ℕ) (line : Line) (next : ℕ) → IsLineAt text at line next → IsPiece (drop at text) line (drop next text)
-piece_at text at (Correct call) next read = correct_piece (drop at text) (drop next text) call read.is_read.0 read.is_read.1
-piece_at text at (Wrong place) next read =
-    wrong_piece (drop at text) (drop next text) place (omega (arith, read.later, read.within, length-drop at text)) read.is_read.0
-    (read.is_read.1 ∙ ap (after_first is_line_feed) (sym (drop-drop place at text)))
-
--- where reading goes on
 pub goes_on : (text : List ℕ) (at : ℕ) (line : Line) (next : ℕ) → IsLineAt text at line next → GoesOn text at line next
 goes_on text at line next read = record {
-  either = (piece_at text at line next read).behind;
-  correct = λ call is. behind_line call (subst (λ l. IsLineAt text at l next) is read);
-  wrong = λ place is. (subst (λ l. IsLineAt text at l next) is read).is_read.1;
-} where
-  behind_line : (call : Call) → IsLineAt text at (Correct call) next → next ≡ at + length (line_of call)
-  behind_line call read = omega (arith, read.later, read.within, ap length read.is_read.1, length-append (line_of call) (drop next text), length-drop at text, length-drop next text)
+  either = behind_feed text at line next read;
+  correct = λ call is.
+      let found = rw is at read in
+      omega (arith, found.later, found.within, ap length found.is_read.1, length-append (line_of call) (drop next text), length-drop at text, length-drop next text);
+  wrong = λ place is. (let found = rw is at read in found.is_read.1);
+}

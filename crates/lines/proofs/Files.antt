@@ -1,17 +1,16 @@
 -- A text's lines are its pieces, and a file of calls, written and read back: line by line.
-use Rattle.std.proofs.Common.{◌≡◌, ℕ, ◌-◌, ◌<◌, List, [], ◌∷◌, ◌++◌, length, drop, map, refl, sym, ◌∙◌, ap, subst, arith, length-append, length-drop}
-use Rattle.std.specs.List.{AllByRecursion, AllZip, after_first, flat_map, join_with_byte}
-use Rattle.std.specs.Fmt.{decimal}
+use Rattle.std.proofs.Common.{◌≡◌, ℕ, ◌-◌, List, [], ◌∷◌, ◌++◌, length, drop, map, refl, sym, ◌∙◌, ap, subst, arith, length-drop}
+use Rattle.std.specs.List.{AllByRecursion, AllZip, flat_map}
 use Rattle.std.proofs.lemmas.List.{append_cancel_left, drop_all}
 use Rattle.std.proofs.lemmas.Slice.Zip.{AllZip-long}
 use Rattle.book.specs.declared.calls.Call.{Call}
 use Rattle.lines.specs.declared.reader.Line.{Line}
 use Rattle.lines.specs.declared.reader.Line.TheVariants.{Correct}
-use Rattle.lines.specs.Grammar.{HasShortFields, fields_of, line_of}
-use Rattle.lines.specs.Reading.{AreLines, is_line_feed}
+use Rattle.lines.specs.Grammar.{HasShortFields, line_of}
+use Rattle.lines.specs.Reading.{AreLines}
 use Rattle.lines.specs.Written.{names}
 use Rattle.lines.specs.Texts.{cut, IsReadAlone, ArePieces, RoundTrip}
-use Rattle.lines.proofs.Feeds.{piece_at}
+use Rattle.lines.proofs.Feeds.{behind_feed, cut_first, read_alone}
 use Rattle.lines.proofs.Places.{correct_at}
 use Rattle.lines.proofs.Readings.{one_reading}
 
@@ -20,18 +19,13 @@ use Rattle.lines.proofs.Readings.{one_reading}
 pieces_from : (text : List ℕ) (at : ℕ) (lines : List Line) → AreLines text at lines → AllZip IsReadAlone (cut (drop at text)) lines
 pieces_from text at [] past = subst (λ t. AllZip IsReadAlone (cut t) []) (sym (drop_all at text past)) tt
 pieces_from text at (line ∷ lines) read =
-    let piece = piece_at text at line read.0 read.1 in
-    subst (λ pieces. AllZip IsReadAlone pieces (line ∷ lines)) (sym piece.cut_is) (piece.alone, pieces_from text read.0 lines read.2)
+    rw (cut_first (drop at text) (omega (arith, read.1.later, read.1.within, length-drop at text)), ← behind_feed text at line read.0 read.1)
+    (read_alone text at line read.0 read.1, pieces_from text read.0 lines read.2)
 
 pub lines_are_pieces : (text : List ℕ) (at : ℕ) (lines : List Line) → AreLines text at lines → ArePieces (drop at text) lines
 lines_are_pieces text at lines read =
     let pieces : AllZip IsReadAlone (cut (drop at text)) lines = pieces_from text at lines read in
     record { alone = pieces; count = AllZip-long IsReadAlone (cut (drop at text)) lines pieces }
-
--- ---- the names line
-
-pub names_next : (rest : List ℕ) → after_first is_line_feed (names ++ rest) ≡ rest
-names_next rest = refl
 
 -- ---- calls
 
@@ -50,9 +44,7 @@ read_from : (text : List ℕ) (at : ℕ) (calls : List Call) → AllByRecursion 
 read_from text at [] short whole = omega (arith, sym (length-drop at text) ∙ ap length whole)
 read_from text at (call ∷ calls) short whole =
     let rest = flat_map line_of calls in
-    let some : at < length text =
-    omega (arith, sym (length-drop at text) ∙ ap length whole, length-append (line_of call) rest, length-append (join_with_byte 44 (map decimal (fields_of call))) (10 ∷ [])) in
-    let line = correct_at text at call rest some short.0 whole in
+    let line = correct_at text at call rest short.0 whole in
     let next = length text - length rest in
     let left : drop next text ≡ rest = append_cancel_left (line_of call) (drop next text) rest (sym line.is_read.1 ∙ whole) in
     (next, line, read_from text next calls short.1 left)
@@ -61,11 +53,7 @@ same_calls : (calls others : List Call) → as_lines calls ≡ as_lines others �
 same_calls [] [] e = refl
 same_calls [] (other ∷ others) e = absurd (cc)
 same_calls (call ∷ calls) [] e = absurd (cc)
-same_calls (call ∷ calls) (other ∷ others) e =
-    let first : call ≡ other = cc in
-    let behind : as_lines calls ≡ as_lines others = cc in
-    let more = same_calls calls others behind in
-    cc
+same_calls (call ∷ calls) (other ∷ others) e = let more : calls ≡ others = same_calls calls others (cc) in cc
 
 pub round_trip : (text : List ℕ) (calls : List Call) → RoundTrip text calls
 round_trip text calls = record {

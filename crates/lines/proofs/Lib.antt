@@ -1,13 +1,12 @@
+pub mod Readers
 pub mod Numerals
-pub mod Composed
 pub mod Fields
 pub mod Calls
 pub mod Places
-pub mod Unique
-pub mod Readings
 pub mod Feeds
+pub mod Readings
+pub mod Scanned
 pub mod Files
 pub mod DecimalTexts
 pub mod Buffers
-pub mod Scanned
 pub mod WorkedTexts

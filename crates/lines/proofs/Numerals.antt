@@ -1,214 +1,135 @@
--- What the front of a field's word is, and which byte may follow it: by std's lemmas on the digits of a number, read from the
--- left.
-use Rattle.std.proofs.Common.{◌≡◌, ◌≢◌, ℕ, ◌+◌, ◌-◌, ◌*◌, ◌/◌, ◌%◌, ◌^◌, ◌<◌, ◌≤◌, List, [], ◌∷◌, ◌++◌, length, get_or, take, drop, refl, sym, ◌∙◌, ap, subst, ◌⊎◌, inl, inr, ⊎_elim, append_assoc, arith, length-append}
+-- A field is read right, digit by digit.
+use Rattle.std.proofs.Common.{◌≡◌, ℕ, zero, suc, ◌+◌, ◌-◌, ◌*◌, ◌/◌, ◌%◌, ◌^◌, ◌<◌, ◌≤◌, List, [], ◌∷◌, ◌++◌, Bool, true, false, ◌||◌, refl, sym, ◌∙◌, ap, subst, ⊎_elim, append_assoc, arith}
+use Rattle.std.specs.Prelude.{nat_lt, Ok, Err}
 use Rattle.std.specs.Fmt.{decimal}
-use Rattle.std.specs.Int.{IsInRange}
-use Rattle.std.specs.Str.Parse.{digits_value}
-use Rattle.std.proofs.lemmas.Fmt.{decimal_is_IsNumeral, decimal_digit, decimal_step, decimal_injective, first_decimal}
-use Rattle.std.proofs.lemmas.Int.Digits.{digits_value_push}
-use Rattle.std.proofs.lemmas.Str.{digit_value_digit}
-use Rattle.std.proofs.lemmas.Str.Parse.{digit_at, digits_value-take-le}
-use Rattle.std.proofs.lemmas.List.{get_or_at, get_or_append_left, take_at, take-append-le, drop_at, append-nil, take_all, take_more, drop_more, take-append-drop, length-take-le}
-use Rattle.std.proofs.lemmas.Bool.{cases_lt}
-use Rattle.lines.specs.Parts.{IsField, IsFirstWrong, Ends, Continues}
+use Rattle.std.proofs.lemmas.Fmt.{decimal_digit, decimal_step}
+use Rattle.std.proofs.lemmas.Bool.{cases_lt, cond_both, cond-false, cond-true, false_from_ne_true}
+use Rattle.std.proofs.lemmas.Bool.Decides.{nat_tests}
+use Rattle.std.proofs.lemmas.List.{drop_more, drop_all, take_rest}
+use Rattle.lines.specs.Parts.{ends, continues, field_read}
 use Rattle.lines.specs.Grammar.{Begins}
+use Rattle.lines.proofs.Readers.{IsWordOf, IsRightAnswer, Reads}
 
--- two ways to cut a list: one cut is not behind the other
-pub cut_before : (word rest front more : List ℕ) (byte : ℕ) → word ++ rest ≡ front ++ byte ∷ more
-    → ((r : List ℕ) × (front ≡ word ++ r)) ⊎ ((m : List ℕ) × (word ≡ front ++ byte ∷ m))
-cut_before [] rest front more byte e = inl (front, refl)
-cut_before (x ∷ word) rest [] more byte e = let first : x ≡ byte = cc in inr (word, ap (λ b. b ∷ word) first)
-cut_before (x ∷ word) rest (y ∷ front) more byte e =
-    let first : x ≡ y = cc in
-    let behind : word ++ rest ≡ front ++ byte ∷ more = cc in
-    ⊎_elim (λ found. inl (found.0, cc)) (λ found. inr (found.0, cc)) (cut_before word rest front more byte behind)
+-- the number of a field within its bounds
+abbrev pub IsWithin : ℕ → ℕ → ℕ → Type 0
+IsWithin lowest highest number = (lowest ≤ number) × (number ≤ highest)
 
--- what was read of a field: nothing, or the number so far
-pub record IsRead (lowest highest value : ℕ) (front : List ℕ) : Type 0 where
-  pub empty : length front ≡ 0 → value ≡ 0
-  pub spelled : 0 < length front → front ≡ decimal value
-  pub low : 0 < length front → lowest ≤ value
-  pub high : value ≤ highest
+-- its text
+abbrev pub field_word : ℕ → ℕ → List ℕ
+field_word end number = decimal number ++ end ∷ []
 
 -- a digit more
-pub decimal_push : (value digit : ℕ) → 0 < value → digit < 10 → value * 10 + digit < 2 ^ 64 → decimal (value * 10 + digit) ≡ decimal value ++ (48 + digit) ∷ []
+decimal_push : (value digit : ℕ) → 0 < value → digit < 10 → value * 10 + digit < 2 ^ 64 → decimal (value * 10 + digit) ≡ decimal value ++ (48 + digit) ∷ []
 decimal_push value digit positive small fits =
     let front : (value * 10 + digit) / 10 ≡ value = grind arith in
     let last : (value * 10 + digit) % 10 ≡ digit = grind arith in
-    decimal_step (value * 10 + digit) (omega arith) fits ∙ ap (λ n. decimal n ++ (48 + (value * 10 + digit) % 10) ∷ []) front ∙ ap (λ n. decimal value ++ (48 + n) ∷ []) last
+    rw (decimal_step (value * 10 + digit) (omega arith) fits, front, last)
 
--- each byte of a number is a digit
-pub is_digit_at : (n i : ℕ) → n < 2 ^ 64 → i < length (decimal n) → IsInRange 48 57 (get_or (decimal n) i 0)
-is_digit_at n i fits below = digit_at (decimal n) i (decimal_is_IsNumeral n fits).0.1 below
+-- the text of the digits that were read, and what is known of their value
+abbrev so_far : Bool → ℕ → List ℕ
+so_far true value = []
+so_far false value = decimal value
 
--- numbers whose texts go on with bytes that are no digits are one
-pub same_number : (m n a b : ℕ) (x y : List ℕ) → m < 2 ^ 64 → n < 2 ^ 64 → a < 48 → b < 48 → decimal m ++ a ∷ x ≡ decimal n ++ b ∷ y → (m ≡ n) × (x ≡ y)
-same_number m n a b x y fits_m fits_n no_digit_a no_digit_b e =
-    ⊎_elim
-    (λ shorter. absurd (
-    let at_end : get_or (decimal m ++ a ∷ x) (length (decimal m)) 0 ≡ a = get_or_at (decimal m) a x 0 _ refl in
-    let inside : get_or (decimal n ++ b ∷ y) (length (decimal m)) 0 ≡ get_or (decimal n) (length (decimal m)) 0 = get_or_append_left _ _ 0 _ shorter in
-    let digit = is_digit_at n (length (decimal m)) fits_n shorter in
-    omega (arith, digit, at_end, inside, ap (λ l. get_or l (length (decimal m)) 0) e)))
-    (λ not_shorter. ⊎_elim
-    (λ longer. absurd (
-    let at_end : get_or (decimal n ++ b ∷ y) (length (decimal n)) 0 ≡ b = get_or_at (decimal n) b y 0 _ refl in
-    let inside : get_or (decimal m ++ a ∷ x) (length (decimal n)) 0 ≡ get_or (decimal m) (length (decimal n)) 0 = get_or_append_left _ _ 0 _ longer in
-    let digit = is_digit_at m (length (decimal n)) fits_m longer in
-    omega (arith, digit, at_end, inside, ap (λ l. get_or l (length (decimal n)) 0) e)))
-    (λ not_longer.
-    let same_length : length (decimal m) ≡ length (decimal n) = omega arith in
-    let fronts : decimal m ≡ decimal n = sym (take_at (decimal m) (a ∷ x) (length (decimal n)) same_length) ∙ ap (take (length (decimal n))) e ∙ take_at (decimal n) (b ∷ y) _ refl in
-    let backs : a ∷ x ≡ b ∷ y = sym (drop_at (decimal m) (a ∷ x) (length (decimal n)) same_length) ∙ ap (drop (length (decimal n))) e ∙ drop_at (decimal n) (b ∷ y) _ refl in
-    (decimal_injective m n fits_m fits_n fronts, cc))
-    (cases_lt (length (decimal n)) (length (decimal m))))
-    (cases_lt (length (decimal m)) (length (decimal n)))
+abbrev IsSoFar : ℕ → ℕ → Bool → ℕ → Type 0
+IsSoFar lowest highest true value = value ≡ 0
+IsSoFar lowest highest false value = IsWithin lowest highest value
 
--- a digit more is read
-pub read_digit : (lowest highest value byte : ℕ) (front : List ℕ) → highest < 10 ^ 11 → IsRead lowest highest value front
-    → (0 < length front → 0 < value) → IsInRange 48 57 byte → lowest ≤ value * 10 + (byte - 48) → value * 10 + (byte - 48) ≤ highest
-    → IsRead lowest highest (value * 10 + (byte - 48)) (front ++ byte ∷ [])
-read_digit lowest highest value byte [] bound read goes digit low high =
-    let start : value ≡ 0 = read.empty refl in
-    let same : 48 + (value * 10 + (byte - 48)) ≡ byte = omega arith in
-    record {
-      empty = λ none. absurd (omega arith);
-      spelled = λ _. sym (decimal_digit (value * 10 + (byte - 48)) (omega arith) ∙ ap (λ b. b ∷ []) same);
-      low = λ _. low;
-      high = high;
-    }
-read_digit lowest highest value byte (x ∷ front) bound read goes digit low high =
-    let some : 0 < length (x ∷ front) = omega arith in
-    let more : 0 < value = goes some in
-    let same : 48 + (byte - 48) ≡ byte = omega arith in
-    record {
-      empty = λ none. absurd (omega arith);
-      spelled = λ _. ap (λ l. l ++ byte ∷ []) (read.spelled some) ∙ sym (decimal_push value (byte - 48) more (omega arith) (omega arith) ∙ ap (λ b. decimal value ++ b ∷ []) same);
-      low = λ _. low;
-      high = high;
-    }
+module _ (lowest highest end : ℕ) where
+  -- no byte, one that ends the field, one that may follow, and any other
+  pub byte_none : (empty : Bool) (value : ℕ) → field_read lowest highest end [] empty value ≡ Err []
+  unfolding field_read
+  byte_none empty value = refl
 
--- the value of what was read
-value_read : (lowest highest value : ℕ) (front : List ℕ) → highest < 10 ^ 11 → IsRead lowest highest value front → digits_value 10 front ≡ value
-value_read lowest highest value [] bound read = sym (read.empty refl)
-value_read lowest highest value (x ∷ front) bound read =
-    ap (digits_value 10) (read.spelled (omega arith)) ∙ (decimal_is_IsNumeral value (omega (arith, read.high))).1
+  pub byte_ends : (empty : Bool) (value byte : ℕ) (bytes : List ℕ) → ends end empty byte ≡ true → field_read lowest highest end (byte ∷ bytes) empty value ≡ Ok (value, bytes)
+  unfolding field_read
+  byte_ends empty value byte bytes on = cond-true (ends end empty byte) _ _ on
 
--- what goes on behind the front of a field's word
-pub what_follows : (lowest highest end value byte n : ℕ) (front more : List ℕ) → lowest ≤ 1 → highest < 10 ^ 11
-    → IsRead lowest highest value front → lowest ≤ n → n ≤ highest → decimal n ++ end ∷ [] ≡ front ++ byte ∷ more
-    → Ends end (length front) byte ⊎ Continues lowest highest value (length front) byte
-what_follows lowest highest end value byte n front more lowest_bound highest_bound read low high e =
-    let numeral = decimal_is_IsNumeral n (omega arith) in
-    let here : get_or (front ++ byte ∷ more) (length front) 0 ≡ byte = get_or_at front byte more 0 _ refl in
-    ⊎_elim
-    (λ inside. inr (
-    let is_byte : get_or (decimal n) (length front) 0 ≡ byte = sym (get_or_append_left (decimal n) (end ∷ []) 0 _ inside) ∙ ap (λ l. get_or l (length front) 0) e ∙ here in
-    let digit : IsInRange 48 57 byte = subst (IsInRange 48 57) is_byte (is_digit_at n (length front) (omega arith) inside) in
-    let front_is : take (length front + 1) (decimal n) ≡ front ++ byte ∷ [] = sym (take-append-le (length front + 1) (decimal n) (end ∷ []) (omega arith)) ∙ ap (take (length front + 1)) (e ∙ sym (append_assoc front (byte ∷ []) more)) ∙ take_at (front ++ byte ∷ []) more _ (length-append front (byte ∷ []) ∙ omega arith) in
-    let so_far : digits_value 10 (front ++ byte ∷ []) ≤ n = subst (λ l. digits_value 10 l ≤ n) front_is (omega (arith, digits_value-take-le 10 (decimal n) (length front + 1) (omega arith), numeral.1)) in
-    let next : digits_value 10 (front ++ byte ∷ []) ≡ value * 10 + (byte - 48) = digits_value_push 10 front byte ∙ omega (arith, value_read lowest highest value front highest_bound read, digit_value_digit byte digit) in
-    let first : 0 < n → 48 < get_or (decimal n) 0 0 = λ positive. first_decimal n positive (omega arith) in
-    let no_zero : 0 < length front → 0 < value = λ some. ⊎_elim
-    (λ positive. positive)
-    (λ is_zero. absurd (
-    let front_zero : front ≡ 48 ∷ [] = read.spelled some ∙ ap decimal (let e0 : value ≡ 0 = omega arith in e0) ∙ decimal_digit 0 (omega arith) in
-    let first_is : get_or (decimal n) 0 0 ≡ 48 = sym (get_or_append_left (decimal n) (end ∷ []) 0 0 (omega arith)) ∙ ap (λ l. get_or l 0 0) e ∙ ap (λ l. get_or (l ++ byte ∷ more) 0 0) front_zero in
-    ⊎_elim
-    (λ positive. omega (arith, first positive))
-    (λ none. omega (arith, ap length front_zero, ap length (ap decimal (let e1 : n ≡ 0 = omega arith in e1) ∙ decimal_digit 0 (omega arith))))
-    (cases_lt 0 n)))
-    (cases_lt 0 value) in
-    record {
-      digit = digit;
-      no_zero = no_zero;
-      low = ⊎_elim
-          (λ positive. omega arith)
-          (λ none. ⊎_elim
-          (λ some. absurd (omega (arith, no_zero some)))
-          (λ empty.
-          let first_is : get_or (decimal n) 0 0 ≡ byte = ap (λ i. get_or (decimal n) i 0) (let e2 : 0 ≡ length front = omega arith in e2) ∙ is_byte in
-          ⊎_elim (λ positive. absurd (omega (arith, first positive))) (λ zero_n. omega arith) (cases_lt 0 n))
-          (cases_lt 0 (length front)))
-          (cases_lt 0 (value * 10 + (byte - 48)));
-      high = omega arith;
-    }))
-    (λ behind. inl (
-    let lengths : length (decimal n) + 1 ≡ length front + (1 + length more) = sym (length-append (decimal n) (end ∷ [])) ∙ ap length e ∙ length-append front (byte ∷ more) ∙ omega arith in
-    let at_end : length (decimal n) ≡ length front = omega arith in
-    let is_end : get_or (decimal n ++ end ∷ []) (length front) 0 ≡ end = get_or_at (decimal n) end [] 0 _ at_end in
-    (sym here ∙ ap (λ l. get_or l (length front) 0) (sym e) ∙ is_end, omega (arith, numeral.0.0))))
-    (cases_lt (length front) (length (decimal n)))
+  pub byte_follows : (empty : Bool) (value byte : ℕ) (bytes : List ℕ) → ends end empty byte ≡ false → continues lowest highest empty value byte ≡ true
+      → field_read lowest highest end (byte ∷ bytes) empty value ≡ field_read lowest highest end bytes false (value * 10 + (byte - 48))
+  unfolding field_read
+  byte_follows empty value byte bytes off on = cond-false (ends end empty byte) _ _ off ∙ cond-true (continues lowest highest empty value byte) _ _ on
 
--- no word of a field is inside what was read of it
-no_word_inside : (lowest highest end value : ℕ) (front word rest : List ℕ) → highest < 10 ^ 11 → end < 48
-    → IsRead lowest highest value front → IsField lowest highest end word → front ≡ word ++ rest → ⊥
-no_word_inside lowest highest end value front word rest highest_bound end_bound read is_word e =
-    let whole : front ≡ decimal is_word.number ++ end ∷ rest = e ∙ ap (λ w. w ++ rest) (is_word.whole ∙ ap (λ t. decimal is_word.number ++ end ∷ t) is_word.follows) ∙ append_assoc (decimal is_word.number) (end ∷ []) rest in
-    let some : 0 < length front = omega (arith, ap length whole ∙ length-append (decimal is_word.number) (end ∷ rest)) in
-    let closed : decimal is_word.number ++ end ∷ (rest ++ 10 ∷ []) ≡ decimal value ++ 10 ∷ [] =
-    sym (append_assoc (decimal is_word.number) (end ∷ rest) (10 ∷ [])) ∙ ap (λ l. l ++ 10 ∷ []) (sym whole ∙ read.spelled some) in
-    let none : rest ++ 10 ∷ [] ≡ [] = (same_number is_word.number value end 10 (rest ++ 10 ∷ []) [] (omega (arith, is_word.high)) (omega (arith, read.high)) end_bound (omega arith) closed).1 in
-    omega (arith, sym (length-append rest (10 ∷ [])) ∙ ap length none)
+  pub byte_wrong : (empty : Bool) (value byte : ℕ) (bytes : List ℕ) → ends end empty byte ≡ false → continues lowest highest empty value byte ≡ false
+      → field_read lowest highest end (byte ∷ bytes) empty value ≡ Err (byte ∷ bytes)
+  unfolding field_read
+  byte_wrong empty value byte bytes off stuck = cond-false (ends end empty byte) _ _ off ∙ cond-false (continues lowest highest empty value byte) _ _ stuck
 
--- what was read begins a field
-begins_field : (lowest highest end value : ℕ) (front : List ℕ) → lowest ≤ highest → IsRead lowest highest value front → Begins (IsField lowest highest end) front
-begins_field lowest highest end value [] order read = (
-  decimal lowest ++ end ∷ [],
-  record { number = lowest; low = omega arith; high = order; tail = []; follows = refl; whole = refl },
-)
-begins_field lowest highest end value (x ∷ front) order read =
-    let some : 0 < length (x ∷ front) = omega arith in (
-      end ∷ [],
-      record { number = value; low = read.low some; high = read.high; tail = []; follows = refl; whole = ap (λ l. l ++ end ∷ []) (read.spelled some) },
-    )
+module _ (lowest highest end : ℕ) (lowest_bound : lowest ≤ 1) (order : lowest ≤ highest) (highest_bound : highest < 10 ^ 11) (end_bound : end < 48) where
+  -- a digit that may follow is read
+  digit_read : (empty : Bool) (value digit next : ℕ) (bytes : List ℕ) → ends end empty (48 + digit) ≡ false → (empty || nat_lt 0 value) ≡ true → digit < 10 → next ≡ value * 10 + digit
+      → IsWithin lowest highest next → field_read lowest highest end ((48 + digit) ∷ bytes) empty value ≡ field_read lowest highest end bytes false next
+  digit_read empty value digit next bytes no_end no_zero small next_is within =
+      byte_follows lowest highest end empty value (48 + digit) bytes no_end (grind (arith, nat_tests))
+      ∙ ap (field_read lowest highest end bytes false) (let same : value * 10 + (48 + digit - 48) ≡ next = omega arith in same)
 
--- the byte behind what was read is the first wrong one, if it neither ends the field nor continues it
-pub is_first_wrong : (lowest highest end value : ℕ) (text front left : List ℕ) → lowest ≤ 1 → lowest ≤ highest → highest < 10 ^ 11 → end < 48
-    → IsRead lowest highest value front → text ≡ front ++ left
-    → ((byte : ℕ) (rest : List ℕ) → left ≡ byte ∷ rest → Ends end (length front) byte ⊎ Continues lowest highest value (length front) byte → ⊥)
-    → IsFirstWrong (IsField lowest highest end) text left
-is_first_wrong lowest highest end value text front left lowest_bound order highest_bound end_bound read split stuck = record {
-  front = front;
-  split = split;
-  begins = begins_field lowest highest end value front order read;
-  stops = λ byte rest left_is begins.
-      let is_word = begins.1 in
-      stuck byte rest left_is (what_follows lowest highest end value byte is_word.number front begins.0 lowest_bound highest_bound read is_word.low is_word.high
-      (sym (is_word.whole ∙ ap (λ t. decimal is_word.number ++ end ∷ t) is_word.follows) ∙ append_assoc front (byte ∷ []) begins.0));
-  unread = λ word rest is_word e. no_word_inside lowest highest end value front word rest highest_bound end_bound read is_word e;
-}
+  -- the digits of a number are read
+  decimal_read : (fuel n : ℕ) → n < fuel → IsWithin lowest highest n → (rest : List ℕ) → field_read lowest highest end (decimal n ++ rest) true 0 ≡ field_read lowest highest end rest false n
+  decimal_read zero n enough within rest = absurd (omega arith)
+  decimal_read (suc fuel) n enough within rest = ⊎_elim
+      (λ small. rw (decimal_digit n small) (digit_read true 0 n n rest refl refl small (omega arith) within))
+      (λ large. rw (decimal_step n large (omega arith), append_assoc (decimal (n / 10)) ((48 + n % 10) ∷ []) rest)
+      (decimal_read fuel (n / 10) (omega arith) (omega arith, omega arith) ((48 + n % 10) ∷ rest)
+      ∙ digit_read false (n / 10) (n % 10) n rest (grind (arith, nat_tests)) (grind (arith, nat_tests)) (omega arith) (omega arith) within))
+      (cases_lt n 10)
 
--- The same in a text, where the first i bytes were read.
-module _ (lowest highest end value : ℕ) (text : List ℕ) (i : ℕ) (highest_bound : highest < 10 ^ 11) (read : IsRead lowest highest value (take i text)) where
-  length_read : i ≤ length text → length (take i text) ≡ i
-  length_read within = length-take-le i text within
+  -- so are those that were read so far
+  reached : (empty : Bool) (value : ℕ) → IsSoFar lowest highest empty value → (rest : List ℕ)
+      → field_read lowest highest end (so_far empty value ++ rest) true 0 ≡ field_read lowest highest end rest empty value
+  reached true value none rest = ap (field_read lowest highest end rest true) (sym none)
+  reached false value within rest = decimal_read (suc value) value (omega arith) within rest
 
-  -- a digit more
-  pub more_read : (next : ℕ) → i < length text → Continues lowest highest value i (get_or text i 0) → next ≡ value * 10 + (get_or text i 0 - 48) → IsRead lowest highest next (take (i + 1) text)
-  more_read next below goes next_is =
-      let count : length (take i text) ≡ i = length_read (omega arith) in
-      subst (IsRead lowest highest next) (sym (take_more text i 0 below))
-      (subst (λ n. IsRead lowest highest n (take i text ++ get_or text i 0 ∷ [])) (sym next_is)
-      (read_digit lowest highest value (get_or text i 0) (take i text) highest_bound read (λ some. goes.no_zero (omega arith)) goes.digit goes.low goes.high))
+  -- they begin a field
+  begins : (empty : Bool) (value : ℕ) → IsSoFar lowest highest empty value → Begins (IsWordOf (IsWithin lowest highest) (field_word end)) (so_far empty value)
+  begins true value none = (field_word end lowest, record { value = lowest; fits = (omega arith, order); whole = refl })
+  begins false value within = (end ∷ [], record { value = value; fits = within; whole = refl })
 
-  -- the byte there is the first wrong one
-  pub wrong_here : (left : List ℕ) → lowest ≤ 1 → lowest ≤ highest → end < 48 → left ≡ drop i text → i < length text
-      → (0 < i → get_or text i 0 ≢ end) → (Continues lowest highest value i (get_or text i 0) → ⊥) → IsFirstWrong (IsField lowest highest end) text left
-  wrong_here left lowest_bound order end_bound left_is below no_end no_digit =
-      let count : length (take i text) ≡ i = length_read (omega arith) in
-      is_first_wrong lowest highest end value text (take i text) left lowest_bound order highest_bound end_bound read
-      (sym (take-append-drop i text) ∙ ap (λ l. take i text ++ l) (sym left_is))
-      (λ byte rest is_here follows.
-      let byte_is : byte ≡ get_or text i 0 = (let cons : byte ∷ rest ≡ get_or text i 0 ∷ drop (i + 1) text = sym is_here ∙ left_is ∙ drop_more text i 0 below in cc) in
-      ⊎_elim
-      (λ ends. no_end (omega (arith, ends.1)) (sym byte_is ∙ ends.0))
-      (λ goes. no_digit (subst (λ b. Continues lowest highest value i b) byte_is (subst (λ n. Continues lowest highest value n byte) count goes)))
-      follows)
+  -- a byte that may follow makes one digit more
+  push : (empty : Bool) (value byte : ℕ) → IsSoFar lowest highest empty value → continues lowest highest empty value byte ≡ true
+      → so_far empty value ++ byte ∷ [] ≡ decimal (value * 10 + (byte - 48))
+  push true value byte none on =
+      let same : byte ≡ 48 + (value * 10 + (byte - 48)) = grind (arith, nat_tests) in
+      rw (decimal_digit (value * 10 + (byte - 48)) (grind (arith, nat_tests))) (ap (λ b. b ∷ []) same)
+  push false value byte within on =
+      let same : byte ≡ 48 + (byte - 48) = grind (arith, nat_tests) in
+      let high : value * 10 + (byte - 48) ≤ highest = grind (arith, nat_tests) in
+      rw (decimal_push value (byte - 48) (grind (arith, nat_tests)) (grind (arith, nat_tests)) (omega arith)) (ap (λ b. decimal value ++ b ∷ []) same)
 
-  -- the text ends inside the field
-  pub wrong_at_end : lowest ≤ 1 → lowest ≤ highest → end < 48 → length text ≤ i → IsFirstWrong (IsField lowest highest end) text []
-  wrong_at_end lowest_bound order end_bound past =
-      is_first_wrong lowest highest end value text (take i text) [] lowest_bound order highest_bound end_bound read
-      (sym (append-nil (take i text) ∙ take_all i text past))
-      (λ byte rest impossible follows. omega (arith, ap length impossible))
+  -- a byte that ends the field is behind its number
+  last : (empty : Bool) (value byte : ℕ) → IsSoFar lowest highest empty value → ends end empty byte ≡ true → IsWithin lowest highest value × (so_far empty value ++ byte ∷ [] ≡ field_word end value)
+  last true value byte none on = absurd (cc)
+  last false value byte within on = (within, ap (λ b. decimal value ++ b ∷ []) (let same : byte ≡ end = grind (arith, nat_tests) in same))
+
+  field_right : (empty : Bool) (value : ℕ) → IsSoFar lowest highest empty value → (bytes : List ℕ)
+      → IsRightAnswer (IsWithin lowest highest) (field_word end) (λ text. field_read lowest highest end text true 0) (so_far empty value ++ bytes) (field_read lowest highest end bytes empty value)
+  unfolding field_read
+  field_right empty value read [] = record { front = so_far empty value; split = refl; begins = begins empty value read; refused = λ byte rest more e. absurd (cc) }
+  field_right empty value read (byte ∷ bytes) =
+      let right = IsRightAnswer (IsWithin lowest highest) (field_word end) (λ text. field_read lowest highest end text true 0) in
+      cond_both (ends end empty byte) _ _ (right (so_far empty value ++ byte ∷ bytes))
+      (λ on. let found = last empty value byte read on in (found.0, sym (append_assoc (so_far empty value) (byte ∷ []) bytes) ∙ ap (λ word. word ++ bytes) found.1))
+      (λ off. cond_both (continues lowest highest empty value byte) _ _ (right (so_far empty value ++ byte ∷ bytes))
+      (λ on.
+      let next = value * 10 + (byte - 48) in
+      subst (λ text. right text (field_read lowest highest end bytes false next)) (ap (λ digits. digits ++ bytes) (sym (push empty value byte read on)) ∙ append_assoc (so_far empty value) (byte ∷ []) bytes)
+      (field_right false next (grind (arith, nat_tests), grind (arith, nat_tests)) bytes))
+      (λ stuck. record {
+        front = so_far empty value;
+        split = refl;
+        begins = begins empty value read;
+        refused = λ other rest more e.
+            let same : byte ≡ other = cc in
+            subst (λ b. field_read lowest highest end (so_far empty value ++ b ∷ more) true 0 ≡ Err (b ∷ more)) same
+            (reached empty value read (byte ∷ more) ∙ byte_wrong lowest highest end empty value byte more off stuck);
+      }))
+
+  pub field_reads : Reads (IsWithin lowest highest) (field_word end) (λ text. field_read lowest highest end text true 0)
+  field_reads = record {
+    right = field_right true 0 refl;
+    complete = λ n rest within.
+        rw (append_assoc (decimal n) (end ∷ []) rest, decimal_read (suc n) n (omega arith) within (end ∷ rest)) (byte_ends lowest highest end false n end rest (grind (arith, nat_tests)));
+  }
+
+-- ---- the reader's loop
+
+-- what its proof takes
+pub ruleset field_loop = (byte_none, byte_ends, byte_follows, byte_wrong, false_from_ne_true, drop_more, drop_all, take_rest, nat_tests)

@@ -9,55 +9,43 @@ use Rattle.lines.specs.Reading.{IsFirstLine}
 use Rattle.lines.specs.Written.{names, HasNoNames}
 use Rattle.lines.specs.Texts.{ReadsAs}
 use Rattle.lines.specs.Worked.{Case, IsRead, correct_lines, wrong_lines, several_lines, unended_lines, worked_file, worked_calls, NamesCase, IsNamed, names_lines, WorkedHold}
-use Rattle.lines.proofs.Scanned.{field_read, columns_read, call_read, read_at, first_line, lines_read, are_all, first_right, lines_right}
+use Rattle.lines.specs.Parts.{field_read, columns_read, call_read}
+use Rattle.lines.proofs.Scanned.{read_at, first_line, first_right, lines_from, has_lines}
 use Rattle.lines.proofs.Files.{round_trip}
 
--- lines that the reader reads so are read so
-are_read : (cases : List Case) → map (λ (case : Case). first_line (codes case.text)) cases ≡ map (λ (case : Case). case.line) cases → AllByRecursion IsRead cases
-are_read [] e = tt
-are_read (case ∷ cases) e =
-    let here : first_line (codes case.text) ≡ case.line = cc in
-    let behind : map (λ (case : Case). first_line (codes case.text)) cases ≡ map (λ (case : Case). case.line) cases = cc in
-    (subst (IsFirstLine (codes case.text)) here (first_right (codes case.text)), are_read cases behind)
+-- what holds of each case whose answer is the wanted one holds of all, where their answers are
+all_from : {A B : Type 0} (P : A → Type 0) (answer wanted : A → B) → ((case : A) → answer case ≡ wanted case → P case) → (cases : List A) → map answer cases ≡ map wanted cases → AllByRecursion P cases
+all_from P answer wanted each [] e = tt
+all_from P answer wanted each (case ∷ cases) e =
+    let here : answer case ≡ wanted case = cc in
+    let behind : map answer cases ≡ map wanted cases = cc in
+    (each case here, all_from P answer wanted each cases behind)
 
--- texts that start so
-is_named : (text : List ℕ) → MatchBool (starts_with nat_eq text names) ((rest : List ℕ) × (text ≡ names ++ rest)) (HasNoNames text)
-is_named text = go (starts_with nat_eq text names) refl where
-  go : (t : Bool) → t ≡ starts_with nat_eq text names → MatchBool t ((rest : List ℕ) × (text ≡ names ++ rest)) (HasNoNames text)
-  go true e = (drop (length names) text, (starts_is Decides-eqb text names true e).0 refl)
-  go false e = λ rest whole. absurd (let same : false ≡ true = (starts_is Decides-eqb text names false e).1 rest whole in cc)
+-- a line that the reader reads so is read so
+read_so : (case : Case) → first_line (codes case.text) ≡ case.line → IsRead case
+read_so case e = subst (IsFirstLine (codes case.text)) e (first_right (codes case.text))
 
-are_named : (cases : List NamesCase) → map (λ (case : NamesCase). starts_with nat_eq (codes case.text) names) cases ≡ map (λ (case : NamesCase). case.named) cases → AllByRecursion IsNamed cases
-are_named [] e = tt
-are_named (case ∷ cases) e =
-    let here : starts_with nat_eq (codes case.text) names ≡ case.named = cc in
-    let behind : map (λ (case : NamesCase). starts_with nat_eq (codes case.text) names) cases ≡ map (λ (case : NamesCase). case.named) cases = cc in
-    (subst (λ named. MatchBool named ((rest : List ℕ) × (codes case.text ≡ names ++ rest)) (HasNoNames (codes case.text))) here (is_named (codes case.text)), are_named cases behind)
+-- a text starts so or doesn't
+named_so : (case : NamesCase) → starts_with nat_eq (codes case.text) names ≡ case.named → IsNamed case
+named_so case = go case.named where
+  text : List ℕ
+  text = codes case.text
 
-correct : AllByRecursion IsRead correct_lines
-unfolding first_line read_at call_read columns_read field_read
-correct = are_read correct_lines refl
-
-wrong : AllByRecursion IsRead wrong_lines
-unfolding first_line read_at call_read columns_read field_read
-wrong = are_read wrong_lines refl
-
-named : AllByRecursion IsNamed names_lines
-named = are_named names_lines refl
-
-file : ReadsAs worked_file worked_calls
-unfolding lines_read are_all read_at call_read columns_read field_read
-file = record { rest = drop (length names) worked_file; named = refl; lines = lines_right 11 (drop (length names) worked_file) 0 refl }
+  go : (named : Bool) → starts_with nat_eq text names ≡ named → MatchBool named ((rest : List ℕ) × (text ≡ names ++ rest)) (HasNoNames text)
+  go true e = (drop (length names) text, (starts_is Decides-eqb text names true (sym e)).0 refl)
+  go false e = λ rest whole. absurd (let same : false ≡ true = (starts_is Decides-eqb text names false (sym e)).1 rest whole in cc)
 
 pub worked_lines : WorkedHold
-unfolding lines_read are_all read_at call_read columns_read field_read
-worked_lines = record {
-  correct = correct;
-  wrong = wrong;
-  none = (refl, tt);
-  lines = lines_right 7 several_lines 0 refl;
-  last = lines_right 3 unended_lines 0 refl;
-  end = (omega arith, omega arith);
-  file = (file, sym ((round_trip worked_file worked_calls).same_bytes.0 file).1);
-  named = named;
-}
+unfolding has_lines lines_from first_line read_at call_read columns_read field_read
+worked_lines =
+    let file : ReadsAs worked_file worked_calls = record { rest = drop (length names) worked_file; named = refl; lines = (has_lines (drop (length names) worked_file) 0).1 } in
+    record {
+      correct = all_from IsRead _ _ read_so correct_lines refl;
+      wrong = all_from IsRead _ _ read_so wrong_lines refl;
+      none = (refl, tt);
+      lines = (has_lines several_lines 0).1;
+      last = (has_lines unended_lines 0).1;
+      end = (omega arith, omega arith);
+      file = (file, sym ((round_trip worked_file worked_calls).same_bytes.0 file).1);
+      named = all_from IsNamed _ _ named_so names_lines refl;
+    }

@@ -1,6 +1,6 @@
 -- A text as its lines, and a file of calls, written and read back. docs/RULES.md, 'The calls as text' and 'A call file'.
 use Rattle.std.specs.Prelude.{◌≡◌, ℕ, ◌↔◌, List, [], ◌∷◌, ◌++◌, length, map, if◌then◌else◌}
-use Rattle.std.specs.List.{AllByRecursion, AllZip, flat_map}
+use Rattle.std.specs.List.{AllByRecursion, AllZip, flat_map, onto_first}
 use Rattle.book.specs.declared.calls.Call.{Call}
 use Rattle.lines.specs.declared.reader.Line.{Line}
 use Rattle.lines.specs.declared.reader.Line.TheVariants.{Correct}
@@ -8,15 +8,10 @@ use Rattle.lines.specs.Grammar.{HasShortFields, line_of}
 use Rattle.lines.specs.Reading.{AreLines, IsLineAt, is_line_feed}
 use Rattle.lines.specs.Written.{names}
 
--- a byte in front of the first of some pieces
-abbrev pub with_byte : ℕ → List (List ℕ) → List (List ℕ)
-with_byte byte [] = (byte ∷ []) ∷ []
-with_byte byte (piece ∷ pieces) = (byte ∷ piece) ∷ pieces
-
 -- a text cut behind each LF; its last piece may have none
 abbrev pub cut : List ℕ → List (List ℕ)
 cut [] = []
-cut (byte ∷ bytes) = if is_line_feed byte then (byte ∷ []) ∷ cut bytes else with_byte byte (cut bytes)
+cut (byte ∷ bytes) = if is_line_feed byte then (byte ∷ []) ∷ cut bytes else onto_first byte (cut bytes)
 
 -- a piece, read by itself, is one line
 abbrev pub IsReadAlone : List ℕ → Line → Type 0

@@ -1,14 +1,13 @@
 //! One field of a line.
 
-ghost use Rattle.std.specs.Prelude.{◌≡◌, ℕ, ◌+◌, ◌-◌, ◌*◌, ◌^◌, ◌<◌, ◌≤◌, ◌++◌, ◌∷◌, IfOk, IfErr};
+ghost use Rattle.std.specs.Prelude.{◌≡◌, ◌+◌, ◌-◌, ◌*◌, ◌^◌, ◌<◌, ◌==◌, true, Ok, Err, IfOk, IfErr};
 ghost use Rattle.std.specs.Option.{SomeIff};
-ghost use Rattle.std.specs.Fmt.{decimal};
-ghost use Rattle.lines.specs.Parts.{Continues, IsField, IsFirstWrong};
+ghost use Rattle.lines.specs.Parts.{continues, field_read};
 
 /// The number with a digit more, where the byte is one that may follow so many digits.
 fn with_digit(value: u64, digits: usize, byte: u8, lowest: u64, highest: u64) -> Option<u64>
     requires { value < 10 ^ 11 }
-    ensures { SomeIff result (Continues lowest highest value digits byte) (value * 10 + (byte - 48)) }
+    ensures { SomeIff result (continues lowest highest (digits == 0) value byte ≡ true) (value * 10 + (byte - 48)) }
 {
     if !byte.is_ascii_digit() || (digits > 0 && value == 0) {
         return None;
@@ -23,15 +22,11 @@ fn with_digit(value: u64, digits: usize, byte: u8, lowest: u64, highest: u64) ->
 
 /// The number of a field within its bounds and what is left behind the byte that ends it, or what is left from the first
 /// wrong byte on.
+#[tactic(auto, using(crate::proofs::Numerals::field_loop))]
 pub(crate) fn field(text: &[u8], lowest: u64, highest: u64, end: u8) -> Result<(u64, &[u8]), &[u8]>
-    requires lowest { lowest ≤ 1 }
-    requires order { lowest ≤ highest }
-    requires highest { highest < 10 ^ 11 }
-    requires end { end < 48 }
-    ensures low { IfOk result (λ read. lowest ≤ read.0) }
-    ensures high { IfOk result (λ read. read.0 ≤ highest) }
-    ensures spelled { IfOk result (λ read. text.now ≡ decimal read.0 ++ end ∷ read.1.now) }
-    ensures wrong { IfErr result (λ left. IsFirstWrong (IsField lowest highest end) text.now left.now) }
+    requires { highest < 10 ^ 11 }
+    ensures read { IfOk result (λ read. field_read lowest highest end text.now true 0 ≡ Ok (read.0, read.1.now)) }
+    ensures wrong { IfErr result (λ left. field_read lowest highest end text.now true 0 ≡ Err left.now) }
 {
     let mut value = 0;
     for (i, byte) in text.iter().enumerate() {

@@ -17,6 +17,7 @@ pub fn one_decimal()
 {}
 
 /// Two calls with the same line are one, and no line begins another: what was written is read again, whatever follows it.
+#[tactic(auto, using(crate::proofs::Calls::one_line))]
 pub fn one_line()
     ensures { (one other : Call) (rest more : List ℕ) → HasShortFields one → HasShortFields other
         → line_of one ++ rest ≡ line_of other ++ more → (one ≡ other) × (rest ≡ more) }
@@ -24,27 +25,32 @@ pub fn one_line()
 
 /// What is read at a place is a call exactly where that call's line stands there, a place exactly where that is the first
 /// wrong byte's, and nothing exactly where no byte is left.
+#[tactic(auto, using(crate::proofs::Readings::right_reading))]
 pub fn right_reading()
     ensures { (text : List ℕ) (at : ℕ) (read : Option (Line × ℕ)) → IsReading text at read
         → IsRight (drop at text) (option_map (λ (line, next). line) read) }
 {}
 
 /// Reading goes on behind the first LF from the line's start on, which is the first from a wrong byte on.
+#[tactic(auto, using(crate::proofs::Feeds::goes_on))]
 pub fn goes_on()
     ensures { (text : List ℕ) (at : ℕ) (line : Line) (next : ℕ) → IsLineAt text at line next → GoesOn text at line next }
 {}
 
 /// Each text has lines.
+#[tactic(auto, using(crate::proofs::Scanned::has_lines))]
 pub fn has_lines()
     ensures { (text : List ℕ) (at : ℕ) → (lines : List Line) × AreLines text at lines }
 {}
 
 /// A text is read in one way.
+#[tactic(auto, using(crate::proofs::Readings::one_reading))]
 pub fn one_reading()
     ensures { (text : List ℕ) (at : ℕ) (one other : List Line) → AreLines text at one → AreLines text at other → one ≡ other }
 {}
 
 /// The lines of a text from a place on are its pieces from there on, cut behind each LF, each read by itself.
+#[tactic(auto, using(crate::proofs::Files::lines_are_pieces))]
 pub fn lines_are_pieces()
     ensures { (text : List ℕ) (at : ℕ) (lines : List Line) → AreLines text at lines → ArePieces (drop at text) lines }
 {}
@@ -66,12 +72,14 @@ pub fn put_leaves()
 {}
 
 /// Bytes that are put in two steps, the second behind the first, stand as if they were put in one.
+#[tactic(auto, using(crate::proofs::Buffers::puts))]
 pub fn put_then()
     ensures { (before middle after : List ℕ) (at place end : ℕ) (bytes more : List ℕ) → IsPut before at bytes place middle
         → IsPut middle place more end after → IsPut before at (bytes ++ more) end after }
 {}
 
 /// The worked lines and texts are read as they say.
+#[tactic(auto, using(crate::proofs::WorkedTexts::worked_lines))]
 pub fn worked_lines()
     ensures { WorkedHold }
 {}

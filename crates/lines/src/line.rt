@@ -1,8 +1,7 @@
 //! One line: its fields, and the call that they are.
 
-ghost use Rattle.std.specs.Prelude.{◌≡◌, ℕ, ◌+◌, ◌-◌, ◌*◌, ◌^◌, ◌<◌, ◌≤◌, ◌++◌, ◌∷◌, IfOk, IfErr, All, ◌==◌, if◌then◌else◌};
-ghost use Rattle.lines.specs.Parts.{AreColumns, AreUpTo, ended, highest_of, IsFirstWrong};
-ghost use Rattle.lines.specs.Grammar.{IsLine, HasShortFields, line_of, fields_of};
+ghost use Rattle.std.specs.Prelude.{◌≡◌, ◌^◌, ◌<◌, Ok, Err, IfOk, IfErr, All, ◌==◌, if◌then◌else◌};
+ghost use Rattle.lines.specs.Parts.{call_of, call_read, columns_read, highest_of};
 
 use crate::field::field;
 use book::calls::Call;
@@ -31,10 +30,7 @@ fn highest_of(number: u64) -> [u64; COLUMNS]
 
 /// The call with these fields.
 fn call_of(number: u64, values: [u64; COLUMNS]) -> Call
-    requires low { 1 ≤ number }
-    requires high { number ≤ 6 }
-    requires values { AreUpTo values (highest_of number) }
-    ensures { fields_of result ≡ number ∷ values }
+    ensures { result ≡ call_of number values }
 {
     let [id, kind, category, isd, side, amount, deliverer, receiver] = values;
     match number {
@@ -68,15 +64,14 @@ fn end_of(column: usize) -> u8
 }
 
 /// The fields behind the call's number and what is left behind the line, or what is left from the first wrong byte on.
+#[tactic(auto, using(crate::proofs::Fields::columns_loop))]
 fn columns(text: &[u8], highest: [u64; COLUMNS]) -> Result<([u64; COLUMNS], &[u8]), &[u8]>
     requires { All (λ most. most < 10 ^ 11) highest }
-    ensures values { IfOk result (λ read. AreUpTo read.0 highest) }
-    ensures spelled { IfOk result (λ read. text.now ≡ ended read.0 ++ read.1.now) }
-    ensures wrong { IfErr result (λ left. IsFirstWrong (AreColumns highest) text.now left.now) }
+    ensures read { IfOk result (λ read. columns_read highest text.now ≡ Ok (read.0, read.1.now)) }
+    ensures wrong { IfErr result (λ left. columns_read highest text.now ≡ Err left.now) }
 {
     let mut values = [0; COLUMNS];
     let mut left = text;
-    // By index: over `values.iter_mut().zip(highest).enumerate()` the proof was tried, and did not close.
     for (column, most) in highest.iter().enumerate() {
         let (value, behind) = field(left, 0, *most, end_of(column))?;
         values[column] = value;
@@ -87,10 +82,10 @@ fn columns(text: &[u8], highest: [u64; COLUMNS]) -> Result<([u64; COLUMNS], &[u8
 
 /// The call whose line stands at the start of the text and what is left behind it, or what is left from the first wrong byte
 /// on.
+#[tactic(auto, unfolding(crate::specs::Parts::call_read))]
 pub(crate) fn read_call(text: &[u8]) -> Result<(Call, &[u8]), &[u8]>
-    ensures short { IfOk result (λ read. HasShortFields read.0) }
-    ensures line { IfOk result (λ read. text.now ≡ line_of read.0 ++ read.1.now) }
-    ensures wrong { IfErr result (λ left. IsFirstWrong IsLine text.now left.now) }
+    ensures read { IfOk result (λ read. call_read text.now ≡ Ok (read.0, read.1.now)) }
+    ensures wrong { IfErr result (λ left. call_read text.now ≡ Err left.now) }
 {
     let (number, left) = field(text, 1, 6, b',')?;
     let (values, left) = columns(left, highest_of(number))?;

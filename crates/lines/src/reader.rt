@@ -28,7 +28,7 @@ fn line_feed(text: &[u8]) -> Option<usize>
 }
 
 /// What stands behind a text's first LF: nothing where there is none.
-#[tactic(auto, using(crate::proofs::Places::position_is, crate::proofs::Places::no_position))]
+#[tactic(auto, using(std::proofs::lemmas::Bool::Decides::nat_tests, std::proofs::lemmas::List::drop_all))]
 fn behind_line_feed(text: &[u8]) -> &[u8]
     ensures { result.now ≡ after_first is_line_feed text.now }
 {
@@ -47,6 +47,7 @@ fn place_of(text: &[u8], at: usize, left: &[u8]) -> usize
 }
 
 /// The line at a place of the text, where a byte is left, and the place where the next one starts.
+#[tactic(auto, using(crate::proofs::Places::behind_call, crate::proofs::Places::from_wrong))]
 fn line_at(text: &[u8], at: usize) -> (Line, usize)
     requires { at < length text.now }
     ensures { IsLineAt text.now at result.0 result.1 }

@@ -27,6 +27,7 @@ pub fn put_number(buffer: &mut [u8], at: usize, number: u64) -> usize
 }
 
 /// Puts a number, and the byte behind it.
+#[tactic(auto, using(crate::proofs::Buffers::puts))]
 fn put_field(buffer: &mut [u8], at: usize, number: u64, end: u8) -> usize
     ensures { IsPut buffer.old at (decimal number ++ end ∷ []) result buffer.new }
 {
@@ -35,6 +36,7 @@ fn put_field(buffer: &mut [u8], at: usize, number: u64, end: u8) -> usize
 }
 
 /// Puts numbers as a line: commas between them, and LF. Of no numbers nothing is put, no LF either.
+#[tactic(auto, using(crate::proofs::Buffers::puts))]
 pub fn put_line(buffer: &mut [u8], at: usize, numbers: &[u64]) -> usize
     ensures { IsPut buffer.old at (numbers_line numbers.now) result buffer.new }
 {

@@ -45,6 +45,7 @@ impl fmt::Display for CallLine {
 
     ghost output = { λ line. Some (line_of line.0) };
 
+    #[tactic(auto, using(std::proofs::Common::append_assoc))]
     fn fmt<W: fmt::Write>(&self, f: &mut fmt::Formatter<W>) -> fmt::Result {
         let [
             call,

@@ -1,5 +1,5 @@
 -- The answers of a file: what is written for the lines that were made, and that it has room.
-use Rattle.std.proofs.Common.{◌≡◌, ◌++◌, ℕ, ◌+◌, ◌-◌, ◌*◌, ◌<◌, ◌≤◌, List, [], ◌∷◌, length, ap, sym, ◌∙◌, subst, arith, append_assoc, length-append, length-drop}
+use Rattle.std.proofs.Common.{◌≡◌, ◌++◌, ℕ, ◌+◌, ◌-◌, ◌*◌, ◌<◌, ◌≤◌, List, [], ◌∷◌, length, ap, refl, sym, ◌∙◌, arith, append_assoc, length-append, length-drop}
 use Rattle.std.specs.Prelude.{Some, Ok, Err, codes}
 use Rattle.std.specs.Fmt.{decimal}
 use Rattle.std.proofs.lemmas.Fmt.{length-decimal-le}
@@ -7,109 +7,90 @@ use Rattle.std.proofs.lemmas.List.{append-nil}
 use Rattle.book.specs.declared.book.Book.{Book}
 use Rattle.book.specs.Calls.{Answer, refusal_number, answer_number}
 use Rattle.book.specs.Answers.{answer_to}
+use Rattle.book.specs.Book.{fresh_book}
 use Rattle.book.specs.declared.calls.Refusal.{Refusal}
-use Rattle.book.specs.declared.calls.Refusal.TheVariants.{Finished, OutOfRange, IdSpent, BookFull, NotOpen, NotDue, OnHold, WrongPart, NotClosed, FaultyFile, ShortBuffer}
+use Rattle.book.specs.declared.calls.Refusal.TheVariants.{Finished}
 use Rattle.lines.specs.declared.reader.Line.{Line}
 use Rattle.lines.specs.declared.reader.Line.TheVariants.{Correct, Wrong}
 use Rattle.lines.specs.declared.reader.Lines.{Lines}
-use Rattle.lines.specs.Reading.{IsLineAt, GivesLine}
+use Rattle.lines.specs.Reading.{AreLines, IsLineAt, GivesLine}
 use Rattle.monitor.specs.declared.replay.LineAnswer.{LineAnswer}
-use Rattle.monitor.specs.Replay.{answer_to_line, after_line}
-use Rattle.monitor.specs.Texts.{ended, refused_text}
-use Rattle.monitor.specs.Answers.{answer_line, answer_lines, AreAnswers}
-use Rattle.monitor.proofs.Made.{Stands, next_line, at_end}
+use Rattle.monitor.specs.Replay.{answer_to_line, after_line, answers_from}
+use Rattle.monitor.specs.Texts.{refused_text}
+use Rattle.monitor.specs.Answers.{answer_line, answer_lines, answers, AreAnswers}
+use Rattle.monitor.proofs.Made.{Reads, at_start, line_at, next_line, at_end}
 
 -- ---- lengths
 
 number_low : (a : Answer) → answer_number a < 100
 number_low (Ok u) = omega arith
 number_low (Err Finished) = omega arith
-number_low (Err OutOfRange) = omega arith
-number_low (Err IdSpent) = omega arith
-number_low (Err BookFull) = omega arith
-number_low (Err NotOpen) = omega arith
-number_low (Err NotDue) = omega arith
-number_low (Err OnHold) = omega arith
-number_low (Err WrongPart) = omega arith
-number_low (Err NotClosed) = omega arith
-number_low (Err FaultyFile) = omega arith
-number_low (Err ShortBuffer) = omega arith
-
-two_digits : (n end : ℕ) → n < 100 → length (ended end n) ≤ 3
-two_digits n end h = omega (arith, length-append (decimal n) (end ∷ []), length-decimal-le 2 n (omega arith) (omega arith) (omega arith))
-
-five_digits : (n end : ℕ) → n < 100000 → length (ended end n) ≤ 6
-five_digits n end h = omega (arith, length-append (decimal n) (end ∷ []), length-decimal-le 5 n (omega arith) (omega arith) (omega arith))
+number_low (Err refusal) = omega arith
 
 pub refused_short : (refusal : Refusal) → length (refused_text refusal) ≤ 11
-refused_short refusal = omega (arith, length-append (codes "refused\n") (ended 10 (refusal_number refusal)), two_digits (refusal_number refusal) 10 (number_low (Err refusal)))
+refused_short refusal =
+    let n = refusal_number refusal in
+    omega (arith, length-append (decimal n) (10 ∷ []), length-decimal-le 2 n (omega arith) (number_low (Err refusal)) (omega (arith, number_low (Err refusal))))
 
 -- 18 bytes at the most
-pub answer_short : (n : ℕ) (b : Book) (line : Line) (text : List ℕ) (at next : ℕ) → n < 100000 → length text < 100000 → IsLineAt text at line next → length (answer_line n (answer_to_line b line)) ≤ 18
+answer_short : (n : ℕ) (b : Book) (line : Line) (text : List ℕ) (at next : ℕ) → n < 100000 → length text < 100000 → IsLineAt text at line next → length (answer_line n (answer_to_line b line)) ≤ 18
 answer_short n b (Correct call) text at next small short line =
-    let came = answer_number (answer_to call b) in
-    omega (
-      arith,
-      length-append (ended 44 n) (ended 44 came ++ codes "-\n"),
-      length-append (ended 44 came) (codes "-\n"),
-      five_digits n 44 small,
-      two_digits came 44 (number_low (answer_to call b)),
-    )
-answer_short n b (Wrong place) text at next small short line = omega (
+    let low = number_low (answer_to call b) in
+    omega (arith, length-append {A = ℕ}, length-decimal-le 5 n (omega arith) small (omega arith), length-decimal-le 2 (answer_number (answer_to call b)) (omega arith) low (omega arith))
+answer_short n b (Wrong place) text at next small short line =
+    let within : place < 100000 = omega (arith, line.is_read.0.within, length-drop at text) in
+    omega (arith, length-append {A = ℕ}, length-decimal-le 5 n (omega arith) small (omega arith), length-decimal-le 5 place (omega arith) within (omega arith))
+
+pub answers_short : (rest : List ℕ) (at n : ℕ) (b : Book) (lines : List Line) → length rest + 57 ≤ 65536 → n ≤ at + 1 → at ≤ length rest → AreLines rest at lines
+    → length (answer_lines n (answers_from b lines)) ≤ 18 * (length rest - at)
+answers_short rest at n b [] short few within are = omega arith
+answers_short rest at n b (line ∷ lines) short few within are = omega (
   arith,
-  length-append (ended 44 n) (codes "wrong," ++ ended 10 place),
-  five_digits n 44 small,
-  five_digits place 10 (omega (arith, line.is_read.0.within, length-drop at text)),
+  length-append (answer_line n (answer_to_line b line)) (answer_lines (n + 1) (answers_from (after_line b line) lines)),
+  answer_short n b line rest at are.0 (omega arith) (omega arith) are.1,
+  answers_short rest are.0 (n + 1) (after_line b line) lines short (omega (arith, are.1.later)) are.1.within are.2,
+  are.1.later,
+  are.1.within,
 )
 
 -- ---- line by line
 
--- one line more behind the others
-lines_snoc : (n : ℕ) (made : List LineAnswer) (answer : LineAnswer) → answer_lines n (made ++ answer ∷ []) ≡ answer_lines n made ++ answer_line (n + length made) answer
-lines_snoc n [] answer = append-nil (answer_line n answer) ∙ ap (λ k. answer_line k answer) (omega arith)
-lines_snoc n (x ∷ made) answer =
-    ap (λ l. answer_line n x ++ l) (lines_snoc (n + 1) made answer ∙ ap (λ k. answer_lines (n + 1) made ++ answer_line k answer) (omega arith))
-    ∙ sym (append_assoc (answer_line n x) (answer_lines (n + 1) made) (answer_line (n + length (x ∷ made)) answer))
+-- the page, with the answers of the lines that follow, has those of all lines
+abbrev pub HasAnswers : Book → ℕ → List ℕ → List Line → List Line → Type 0
+HasAnswers b n page lines all = page ++ answer_lines n (answers_from b lines) ≡ answers all
 
--- the lines before the reader were made, and written
+-- where the writing stands
 pub record Writes (rest : List ℕ) (it : Lines) (b : Book) (n : ℕ) (page : List ℕ) : Type 0 where
-  pub made : List LineAnswer
-  pub stands : Stands rest it b made
-  pub number : n ≡ length made + 1
-  pub text : page ≡ codes "line,answer,place\n" ++ answer_lines 1 made
+  pub reads : Reads rest it (HasAnswers b n page)
+  pub few : n ≤ it.at + 1
   pub room : length page + 18 * (length rest - it.at) ≤ 1179648
 
-pub at_start : (rest : List ℕ) (it : Lines) (b : Book) (n : ℕ) (page : List ℕ) → Stands rest it b [] → n ≡ 1 → page ≡ codes "line,answer,place\n" → Writes rest it b n page
-at_start rest it b n page stands first text = record {
-  made = [];
-  stands = stands;
-  number = first;
-  text = text;
-  room = omega (arith, ap length text, stands.short);
+pub none_written : (rest : List ℕ) (it : Lines) (b : Book) (n : ℕ) (page : List ℕ) → length rest + 57 ≤ 65536 → it.text.now ≡ rest → it.at ≡ 0 → b ≡ fresh_book → n ≡ 1 → page ≡ codes "line,answer,place\n" → Writes rest it b n page
+none_written rest it b n page short same start fresh first text = record {
+  reads = at_start rest it (HasAnswers b n page) short same start (λ lines. rw (text, fresh, first) refl);
+  few = omega arith;
+  room = omega (arith, ap length text);
 }
 
 -- the line at the reader, which came to this answer
-pub has_room : (rest : List ℕ) (it next : Lines) (b : Book) (n : ℕ) (page : List ℕ) (line : Line) (answer : LineAnswer) → Writes rest it b n page
-    → GivesLine it (Some line) next → answer ≡ answer_to_line b line → length page + length (answer_line n answer) + 18 * (length rest - next.at) ≤ 1179648
-has_room rest it next b n page line answer writes given came =
-    let stands = writes.stands in
-    let at : IsLineAt rest it.at line next.at = subst (λ text. IsLineAt text it.at line next.at) stands.same given.0 in
-    let short : length (answer_line n answer) ≤ 18 = subst (λ a. length (answer_line n a) ≤ 18) (sym came)
-    (answer_short n b line rest it.at next.at (omega (arith, writes.number, stands.few, stands.within, stands.short)) (omega (arith, stands.short)) at) in
-    omega (arith, at.later, at.within, writes.room)
+module _ (rest : List ℕ) (it next : Lines) (b : Book) (n : ℕ) (page : List ℕ) (line : Line) (answer : LineAnswer) (writes : Writes rest it b n page) (given : GivesLine it (Some line) next)
+    (came : answer ≡ answer_to_line b line) where
+  pub has_room : length page + length (answer_line n answer) + 18 * (length rest - next.at) ≤ 1179648
+  has_room =
+      let reads = writes.reads in
+      let at = line_at rest it next line (HasAnswers b n page) reads given in
+      let short = answer_short n b line rest it.at next.at (omega (arith, writes.few, reads.within, reads.short)) (omega (arith, reads.short)) at in
+      omega (arith, ap (λ a. length (answer_line n a)) came, at.later, at.within, writes.room)
 
-pub written_more : (rest : List ℕ) (it next : Lines) (b after : Book) (n : ℕ) (page longer : List ℕ) (line : Line) (answer : LineAnswer) → Writes rest it b n page
-    → GivesLine it (Some line) next → answer ≡ answer_to_line b line → after ≡ after_line b line → longer ≡ page ++ answer_line n answer → Writes rest next after (n + 1) longer
-written_more rest it next b after n page longer line answer writes given came left written = record {
-  made = writes.made ++ answer ∷ [];
-  stands = next_line _ _ _ _ _ _ _ _ writes.stands given came left;
-  number = omega (arith, writes.number, length-append writes.made (answer ∷ []));
-  text = written ∙ ap (λ p. p ++ answer_line n answer) writes.text ∙ append_assoc (codes "line,answer,place\n") (answer_lines 1 writes.made) (answer_line n answer)
-      ∙ ap (λ l. codes "line,answer,place\n" ++ l) (ap (λ k. answer_lines 1 writes.made ++ answer_line k answer) (omega (arith, writes.number)) ∙ sym (lines_snoc 1 writes.made answer));
-  room = omega (arith, has_room _ _ _ _ _ _ _ _ writes given came, ap length written ∙ length-append page (answer_line n answer));
-}
+  pub written_more : (after : Book) (longer : List ℕ) → after ≡ after_line b line → longer ≡ page ++ answer_line n answer → Writes rest next after (n + 1) longer
+  written_more after longer left written = record {
+    reads = next_line rest it next line (HasAnswers b n page) writes.reads given (HasAnswers after (n + 1) longer) (λ lines all has.
+        rw (written, left, came) (append_assoc page (answer_line n (answer_to_line b line)) (answer_lines (n + 1) (answers_from (after_line b line) lines)) ∙ has));
+    few = omega (arith, writes.few, (line_at rest it next line (HasAnswers b n page) writes.reads given).later);
+    room = omega (arith, has_room, ap length written ∙ length-append page (answer_line n answer));
+  }
 
 pub all_written : (rest : List ℕ) (it : Lines) (b : Book) (n : ℕ) (page : List ℕ) → Writes rest it b n page → length it.text.now ≤ it.at → AreAnswers rest page
 all_written rest it b n page writes end =
-    let made = at_end _ _ _ _ writes.stands end in
-    (made.lines, made.are_lines, writes.text ∙ ap (λ l. codes "line,answer,place\n" ++ answer_lines 1 l) made.answers)
+    let all = at_end rest it (HasAnswers b n page) writes.reads end in
+    (all.0, all.1, sym (append-nil page) ∙ all.2)

@@ -1,5 +1,5 @@
 -- The counts of a file, its one text, and how long each text may be.
-use Rattle.std.proofs.Common.{◌≡◌, ℕ, ◌+◌, ◌-◌, ◌*◌, ◌≤◌, ◌∙◌, List, [], ◌∷◌, Bool, true, false, length, ap, sym, refl, arith, map, length-append, inl, inr, if◌then◌else◌}
+use Rattle.std.proofs.Common.{◌≡◌, ℕ, ◌+◌, ◌≤◌, ◌∙◌, List, [], ◌∷◌, length, ap, sym, refl, arith, map, inl, inr, if◌then◌else◌}
 use Rattle.std.specs.Prelude.{is_ok}
 use Rattle.std.specs.List.{count_by}
 use Rattle.std.proofs.lemmas.List.Sums.{sum_by-cons}
@@ -10,10 +10,9 @@ use Rattle.book.specs.Book.{book_after, fresh_book}
 use Rattle.history.specs.History.{answers, accepted_onto}
 use Rattle.lines.specs.declared.reader.Line.{Line}
 use Rattle.lines.specs.declared.reader.Line.TheVariants.{Correct, Wrong}
-use Rattle.lines.specs.Reading.{AreLines}
 use Rattle.lines.proofs.Files.{lines_are_pieces}
 use Rattle.monitor.specs.Days.{run_of}
-use Rattle.monitor.specs.Replay.{HasLines, calls_in, answer_to_line, after_line, is_accepted, answers_from, replayed}
+use Rattle.monitor.specs.Replay.{HasLines, calls_in, answer_to_line, is_accepted, answers_from, replayed}
 use Rattle.monitor.specs.Texts.{IsTextOf}
 use Rattle.monitor.specs.ReportTable.{reports}
 use Rattle.monitor.specs.ListTable.{lists}
@@ -23,7 +22,7 @@ use Rattle.monitor.specs.Laws.{CountsAreLines, FilesAreRead, CallsAreRead, OneTe
 use Rattle.monitor.proofs.Made.{short_rest}
 use Rattle.monitor.proofs.Replays
 use Rattle.monitor.proofs.Replays.{one_list}
-use Rattle.monitor.proofs.Answered.{answer_short}
+use Rattle.monitor.proofs.Answered.{answers_short}
 use Rattle.monitor.proofs.Tables.{table_short, few_lines_of}
 use Rattle.monitor.proofs.Reported.{reports_short}
 use Rattle.monitor.proofs.Listed.{lists_short}
@@ -37,10 +36,8 @@ accepted_lines (Wrong place ∷ lines) b h = omega (arith, accepted_lines lines 
 accepted_lines (Correct call ∷ lines) b h =
     let ok = is_ok (answer_to call b) in
     let rest = accepted_lines lines (book_after call b) (if ok then call ∷ h else h) in
-    omega (arith, rest, sum_by-cons (λ x. if is_accepted x then 1 else 0) (answer_to_line b (Correct call)) (answers_from (book_after call b) lines), one ok) where
-      one : (t : Bool) → length (if t then call ∷ h else h) ≡ (if t then 1 else 0) + length h
-      one true = omega arith
-      one false = omega arith
+    let here : length (if ok then call ∷ h else h) ≡ (if ok then 1 else 0) + length h = grind arith in
+    omega (arith, rest, sum_by-cons (λ x. if is_accepted x then 1 else 0) (answer_to_line b (Correct call)) (answers_from (book_after call b) lines))
 
 pub counts_are_lines : (file : List ℕ) (lines : List Line) → CountsAreLines file lines
 counts_are_lines file lines = record {
@@ -85,18 +82,6 @@ reports_fit file bytes days is = fits (reports days) 4096 file bytes (omega arit
 pub lists_fit : ListsFit
 lists_fit file bytes days is = fits (lists days) 8192 file bytes (omega arith)
     (λ lines has. let b = (replayed lines).book in lists_short (run_of b.today days).0 (run_of b.today days).1 b) is
-
-answers_short : (rest : List ℕ) (at n : ℕ) (b : Book) (lines : List Line) → length rest + 57 ≤ 65536 → n ≤ at + 1 → at ≤ length rest → AreLines rest at lines
-    → length (answer_lines n (answers_from b lines)) ≤ 18 * (length rest - at)
-answers_short rest at n b [] short few within are = omega arith
-answers_short rest at n b (line ∷ lines) short few within are = omega (
-  arith,
-  length-append (answer_line n (answer_to_line b line)) (answer_lines (n + 1) (answers_from (after_line b line) lines)),
-  answer_short n b line rest at are.0 (omega arith) (omega arith) are.1,
-  answers_short rest are.0 (n + 1) (after_line b line) lines short (omega (arith, are.1.later)) are.1.within are.2,
-  are.1.later,
-  are.1.within,
-)
 
 pub answers_fit : AnswersFit
 answers_fit file bytes is = fits Answers.answers 1179648 file bytes (omega arith)

@@ -1,7 +1,9 @@
--- A text behind another, in parts, and what a loop that writes has left to write.
-use Rattle.std.proofs.Common.{◌≡◌, ◌++◌, ◌≤◌, ◌<◌, ◌+◌, ◌-◌, ℕ, suc, List, ◌∷◌, [], length, get_or, take, drop, arith, refl, ap, sym, ◌∙◌, append_assoc, length-append}
+-- A text behind another, in parts, and a loop that writes part after part.
+use Rattle.std.proofs.Common.{◌≡◌, ◌++◌, ◌≤◌, ◌<◌, ◌+◌, ◌-◌, ℕ, List, ◌∷◌, [], length, get_or, take, arith, ap, sym, ◌∙◌, append_assoc, length-append}
 use Rattle.std.specs.List.{range_with_len, flat_map}
-use Rattle.std.proofs.lemmas.List.{at_drop_more, append-nil, take_all, take_more, drop_all}
+use Rattle.std.proofs.lemmas.List.{append-nil, flat_map_more, map-id, take_all, take_more}
+use Rattle.std.proofs.lemmas.List.FromFn.{get_or-range_with_len, length-range_with_len, map-range_with_len_more, take-map-range_with_len}
+use Rattle.std.proofs.lemmas.List.Folds.{length-flat_map-take}
 use Rattle.monitor.specs.Texts.{ended, joined}
 
 -- ---- parts
@@ -14,14 +16,27 @@ three_parts old new newer newest a b c first second third = two_parts old new ne
 
 -- ---- loops
 
--- where a step was put behind what stood there, what is left is put behind both
-pub more : (now step rest left : List ℕ) → left ≡ step ++ rest → (now ++ step) ++ rest ≡ now ++ left
-more now step rest left split = append_assoc now step rest ∙ ap (λ l. now ++ l) (sym split)
+-- what is written of one thing more has room where all have
+pub has_room : {X : Type 0} (line : X → List ℕ) (xs : List X) (i : ℕ) (d : X) (old now : List ℕ) (room : ℕ) → i < length xs → now ≡ old ++ flat_map line (take i xs)
+    → length old + length (flat_map line xs) ≤ room → length now + length (line (get_or xs i d)) ≤ room
+has_room line xs i d old now room within is fits = omega (arith, ap length is ∙ length-append old (flat_map line (take i xs)), length-flat_map-take line xs i d within)
 
--- and the step has room where all had
-pub has_room : (room : ℕ) (old whole now left step rest : List ℕ) → now ++ left ≡ old ++ whole → left ≡ step ++ rest → length old + length whole ≤ room → length now + length step ≤ room
-has_room room old whole now left step rest same split fits =
-    omega (arith, sym (length-append now left) ∙ ap length same ∙ length-append old whole, ap length split ∙ length-append step rest)
+-- the numbers from 0 on, and one more
+range_more : (n : ℕ) → range_with_len 0 (n + 1) ≡ range_with_len 0 n ++ n ∷ []
+range_more n = sym (map-id (range_with_len 0 (n + 1))) ∙ map-range_with_len_more (λ x. x) 0 n n (omega arith) ∙ ap (λ l. l ++ n ∷ []) (map-id (range_with_len 0 n))
+
+-- what is written of the numbers from 0 on, and of one more
+pub numbers_more : (line : ℕ → List ℕ) (n : ℕ) (old now newer : List ℕ) → now ≡ old ++ flat_map line (range_with_len 0 n) → newer ≡ now ++ line n → newer ≡ old ++ flat_map line (range_with_len 0 (n + 1))
+numbers_more line n old now newer is step = step ∙ ap (λ l. l ++ line n) is ∙ flat_map_more line old (range_with_len 0 n) n ∙ ap (λ l. old ++ flat_map line l) (sym (range_more n))
+
+-- it has room where all have
+pub numbers_room : (line : ℕ → List ℕ) (n end : ℕ) (old now : List ℕ) (room : ℕ) → n < end → now ≡ old ++ flat_map line (range_with_len 0 n)
+    → length old + length (flat_map line (range_with_len 0 end)) ≤ room → length now + length (line n) ≤ room
+numbers_room line n end old now room within is fits =
+    let all = range_with_len 0 end in
+    let front : take n all ≡ range_with_len 0 n = ap (take n) (sym (map-id all)) ∙ take-map-range_with_len (λ x. x) 0 end n (omega arith) ∙ map-id (range_with_len 0 n) in
+    let here : get_or all n 0 ≡ n = omega (arith, get_or-range_with_len 0 end n 0 within) in
+    rw (sym here) (has_room line all n 0 old now room (omega (arith, length-range_with_len 0 end)) (rw front is) fits)
 
 -- numbers of which some have a comma behind them, and the last one something else
 joined_last : (end : ℕ) (others : List ℕ) (last : ℕ) → joined end (others ++ last ∷ []) ≡ flat_map (ended 44) others ++ ended end last
@@ -32,21 +47,3 @@ joined_last end (n ∷ m ∷ others) last = ap (λ l. ended 44 n ++ l) (joined_l
 pub joined_split : (end : ℕ) (ns : List ℕ) → 1 ≤ length ns → joined end ns ≡ flat_map (ended 44) (take (length ns - 1) ns) ++ ended end (get_or ns (length ns - 1) 0)
 joined_split end ns some =
     ap (joined end) (sym (take_all (length ns - 1 + 1) ns (omega arith)) ∙ take_more ns (length ns - 1) 0 (omega arith)) ∙ joined_last end (take (length ns - 1) ns) (get_or ns (length ns - 1) 0)
-
-pub length-joined : (end : ℕ) (ns : List ℕ) → 1 ≤ length ns
-    → length (joined end ns) ≡ length (flat_map (ended 44) (take (length ns - 1) ns)) + length (ended end (get_or ns (length ns - 1) 0))
-length-joined end ns some = ap length (joined_split end ns some) ∙ length-append (flat_map (ended 44) (take (length ns - 1) ns)) (ended end (get_or ns (length ns - 1) 0))
-
--- a line more of several things
-pub each_split : {X : Type 0} (line : X → List ℕ) (xs : List X) (i : ℕ) (d : X) → i < length xs → flat_map line (drop i xs) ≡ line (get_or xs i d) ++ flat_map line (drop (i + 1) xs)
-each_split line xs i d h = at_drop_more (flat_map line) xs i d h
-
-pub each_done : {X : Type 0} (line : X → List ℕ) (xs : List X) (bs whole : List ℕ) (i : ℕ) → length xs ≤ i → bs ++ flat_map line (drop i xs) ≡ whole → bs ≡ whole
-each_done line xs bs whole i past same = sym (append-nil bs) ∙ ap (λ l. bs ++ flat_map line l) (sym (drop_all i xs past)) ∙ same
-
--- a line more of a run of numbers
-pub run_split : (line : ℕ → List ℕ) (n end : ℕ) → n < end → flat_map line (range_with_len n (end - n)) ≡ line n ++ flat_map line (range_with_len (n + 1) (end - (n + 1)))
-run_split line n end h = let e : end - n ≡ suc (end - (n + 1)) = omega arith in rw e refl
-
-pub run_done : (line : ℕ → List ℕ) (bs : List ℕ) (n end : ℕ) → end ≤ n → bs ++ flat_map line (range_with_len n (end - n)) ≡ bs
-run_done line bs n end h = let e : end - n ≡ 0 = omega arith in rw e (append-nil bs)

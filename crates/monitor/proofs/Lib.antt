@@ -1,4 +1,5 @@
 pub mod Joined
+pub mod Asked
 pub mod Made
 pub mod Replays
 pub mod Answered

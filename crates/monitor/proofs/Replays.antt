@@ -1,11 +1,15 @@
 -- How many lines were accepted and refused, and that a file has one list of lines, so that its book balances.
-use Rattle.std.proofs.Common.{◌≡◌, ℕ, ◌+◌, ◌≤◌, ◌++◌, List, [], ◌∷◌, Bool, true, false, length, ap, sym, ◌∙◌, subst, refl, arith, if◌then◌else◌}
+use Rattle.std.proofs.Common.{◌≡◌, ℕ, ◌+◌, ◌≤◌, List, [], ◌∷◌, Bool, length, ap, sym, ◌∙◌, subst, refl, arith, if◌then◌else◌}
 use Rattle.std.specs.Prelude.{Some, not}
 use Rattle.std.specs.List.{count_by}
 use Rattle.std.proofs.lemmas.List.{append_cancel_left}
-use Rattle.std.proofs.lemmas.List.Sums.{sum_by-append, sum_by-cons}
+use Rattle.std.proofs.lemmas.List.Filters.{length-filter_both}
+use Rattle.std.proofs.lemmas.List.Sums.{length-filter, sum_by-cons}
 use Rattle.book.specs.declared.book.Book.{Book}
+use Rattle.book.specs.Book.{book_after_all}
+use Rattle.history.specs.History.{book_of}
 use Rattle.lines.specs.declared.reader.Line.{Line}
+use Rattle.lines.specs.declared.reader.Line.TheVariants.{Correct, Wrong}
 use Rattle.lines.specs.declared.reader.Lines.{Lines}
 use Rattle.lines.specs.Reading.{AreLines, GivesLine}
 use Rattle.lines.specs.Written.{names}
@@ -14,24 +18,32 @@ use Rattle.balance.proofs.Rows.{rows_balance}
 use Rattle.monitor.specs.declared.replay.LineAnswer.{LineAnswer}
 use Rattle.monitor.specs.declared.replay.Replayed.{Replayed}
 use Rattle.monitor.specs.Replay.{IsSound, HasLines, BalancesFor, calls_in, answer_to_line, after_line, is_accepted, answers_from, answers_of, replayed}
-use Rattle.monitor.proofs.Made.{Stands, next_line, at_end}
+use Rattle.monitor.proofs.Made.{Reads, line_at, next_line, at_end}
 
 -- ---- the counts
 
 abbrev pub is_refused : LineAnswer → Bool
 is_refused answer = not (is_accepted answer)
 
-count_snoc : (p : LineAnswer → Bool) (made : List LineAnswer) (answer : LineAnswer) → count_by p (made ++ answer ∷ []) ≡ count_by p made + (if p answer then 1 else 0)
-count_snoc p made answer = omega (arith, sum_by-append (λ x. if p x then 1 else 0) made (answer ∷ []), sum_by-cons (λ x. if p x then 1 else 0) answer [])
+-- the book and the counts, with those of the lines that follow, are what all lines leave
+pub record Leaves (b : Book) (accepted refused : ℕ) (lines all : List Line) : Type 0 where
+  pub book_is : book_after_all (calls_in lines) b ≡ book_of (calls_in all)
+  pub accepted_is : accepted + count_by is_accepted (answers_from b lines) ≡ count_by is_accepted (answers_of all)
+  pub refused_is : refused + count_by is_refused (answers_from b lines) ≡ count_by is_refused (answers_of all)
 
--- where the replay stands: the lines before the reader were made, and counted
+-- where the replay stands
 pub record Counts (file : List ℕ) (it : Lines) (b : Book) (accepted refused : ℕ) : Type 0 where
   pub rest : List ℕ
   pub sound : IsSound file rest
-  pub made : List LineAnswer
-  pub stands : Stands rest it b made
-  pub are_accepted : accepted ≡ count_by is_accepted made
-  pub are_refused : refused ≡ count_by is_refused made
+  pub reads : Reads rest it (Leaves b accepted refused)
+  pub few : accepted + refused ≤ it.at
+
+pub leaves_all : (r : Replayed) → r ≡ replayed [] → (lines : List Line) → Leaves r.book r.accepted r.refused lines lines
+leaves_all r fresh lines = rw fresh (record { book_is = refl; accepted_is = omega arith; refused_is = omega arith })
+
+after_calls : (line : Line) (lines : List Line) (b : Book) → book_after_all (calls_in lines) (after_line b line) ≡ book_after_all (calls_in (line ∷ lines)) b
+after_calls (Correct call) lines b = refl
+after_calls (Wrong place) lines b = refl
 
 pub counted_more : (file : List ℕ) (it next : Lines) (line : Line) (b after : Book) (accepted refused more also : ℕ) (answer : LineAnswer) (ok : Bool) → Counts file it b accepted refused
     → GivesLine it (Some line) next → answer ≡ answer_to_line b line → after ≡ after_line b line → ok ≡ is_accepted answer
@@ -39,10 +51,15 @@ pub counted_more : (file : List ℕ) (it next : Lines) (line : Line) (b after : 
 counted_more file it next line b after accepted refused more also answer ok counts given came left is one other = record {
   rest = counts.rest;
   sound = counts.sound;
-  made = counts.made ++ answer ∷ [];
-  stands = next_line _ _ _ _ _ _ _ _ counts.stands given came left;
-  are_accepted = one ∙ ap (λ n. n + (if ok then 1 else 0)) counts.are_accepted ∙ ap (λ t. count_by is_accepted counts.made + (if t then 1 else 0)) is ∙ sym (count_snoc is_accepted counts.made answer);
-  are_refused = other ∙ ap (λ n. n + (if not ok then 1 else 0)) counts.are_refused ∙ ap (λ t. count_by is_refused counts.made + (if not t then 1 else 0)) is ∙ sym (count_snoc is_refused counts.made answer);
+  reads = next_line counts.rest it next line (Leaves b accepted refused) counts.reads given (Leaves after more also) (λ lines all leaves.
+      let answers = answers_from (after_line b line) lines in
+      let here : ok ≡ is_accepted (answer_to_line b line) = is ∙ ap is_accepted came in
+      rw left (record {
+        book_is = after_calls line lines b ∙ leaves.book_is;
+        accepted_is = omega (arith, leaves.accepted_is, sum_by-cons (λ x. if is_accepted x then 1 else 0) (answer_to_line b line) answers, ap {B = ℕ} (λ t. if t then 1 else 0) here);
+        refused_is = omega (arith, leaves.refused_is, sum_by-cons (λ x. if is_refused x then 1 else 0) (answer_to_line b line) answers, ap {B = ℕ} (λ t. if not t then 1 else 0) here);
+      }));
+  few = let later = (line_at counts.rest it next line (Leaves b accepted refused) counts.reads given).later in grind (arith, counts.few);
 }
 
 -- the answers are as many as the lines
@@ -52,35 +69,20 @@ length-answers b (line ∷ lines) = omega (arith, length-answers (after_line b l
 
 -- accepted or refused
 both : (answers : List LineAnswer) → count_by is_accepted answers + count_by is_refused answers ≡ length answers
-both [] = refl
-both (answer ∷ answers) = omega (
-  arith,
-  sum_by-cons (λ x. if is_accepted x then 1 else 0) answer answers,
-  sum_by-cons (λ x. if is_refused x then 1 else 0) answer answers,
-  one (is_accepted answer),
-  both answers,
-) where
-  one : (b : Bool) → (if b then 1 else 0) + (if not b then 1 else 0) ≡ 1
-  one true = refl
-  one false = refl
+both answers = omega (arith, length-filter_both is_accepted is_refused (λ answer. refl) answers, length-filter is_accepted answers, length-filter is_refused answers)
 
 pub counts_are_lines : (lines : List Line) → (replayed lines).accepted + (replayed lines).refused ≡ length lines
 counts_are_lines lines = both (answers_of lines) ∙ length-answers _ lines
 
 -- ---- the end
 
-abbrev left : Book → ℕ → ℕ → Replayed
-left b accepted refused = record { book = b; accepted = accepted; refused = refused }
-
-left_by : (b book : Book) (accepted refused : ℕ) (made all : List LineAnswer) → b ≡ book → accepted ≡ count_by is_accepted made → refused ≡ count_by is_refused made → made ≡ all
-    → left b accepted refused ≡ left book (count_by is_accepted all) (count_by is_refused all)
-left_by b book accepted refused made all book_is accepted_is refused_is made_is = rw (book_is, accepted_is, refused_is, made_is) refl
-
 pub replays : (file : List ℕ) (it : Lines) (b : Book) (accepted refused : ℕ) → Counts file it b accepted refused → length it.text.now ≤ it.at
     → (lines : List Line) × HasLines file lines × (record { book = b; accepted = accepted; refused = refused } ≡ replayed lines)
 replays file it b accepted refused counts end =
-    let made = at_end _ _ _ _ counts.stands end in
-    (made.lines, (counts.rest, counts.sound, made.are_lines), left_by _ _ _ _ _ _ made.book counts.are_accepted counts.are_refused made.answers)
+    let all = at_end counts.rest it (Leaves b accepted refused) counts.reads end in
+    let accepted_is : accepted ≡ count_by is_accepted (answers_of all.0) = omega (arith, all.2.accepted_is) in
+    let refused_is : refused ≡ count_by is_refused (answers_of all.0) = omega (arith, all.2.refused_is) in
+    (all.0, (counts.rest, counts.sound, all.1), λ i. record { book = all.2.book_is i; accepted = accepted_is i; refused = refused_is i })
 
 -- ---- one list of lines
 

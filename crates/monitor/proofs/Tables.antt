@@ -2,8 +2,7 @@
 use Rattle.std.proofs.Common.{◌≡◌, ◌<◌, ◌≤◌, ◌+◌, ℕ, List, ◌∷◌, [], length, min, arith, sym, subst, refl, length-append}
 use Rattle.std.specs.Prelude.{Result, Ok, Err}
 use Rattle.std.specs.List.{flat_map}
-use Rattle.std.specs.Fmt.{decimal}
-use Rattle.std.proofs.lemmas.Fmt.{length-decimal-le}
+use Rattle.std.proofs.lemmas.List.FromFn.{length-range_with_len}
 use Rattle.book.specs.declared.calls.Call.{Call}
 use Rattle.book.specs.declared.calls.Refusal.{Refusal}
 use Rattle.book.specs.declared.rows.Row.{Row}
@@ -16,7 +15,7 @@ use Rattle.monitor.specs.Replay.{HasLines, calls_in, replayed}
 use Rattle.monitor.specs.Table.{given_row, day_line, closed_days, counts, table_of, table}
 use Rattle.monitor.proofs.Made.{short_rest}
 use Rattle.monitor.proofs.Replays.{counts_are_lines}
-use Rattle.monitor.proofs.Lengths.{joined_short, lines_short}
+use Rattle.monitor.proofs.Lengths.{length-joined, any_number, lines_short}
 use Rattle.monitor.proofs.Rows.{lines_are_short}
 
 -- a text has no more lines than bytes
@@ -34,20 +33,21 @@ day_short calls day = either (row_answer day 0 (book_of calls)) refl where
   either (Ok r) given = lines_are_short calls day 0 r given
   either (Err refusal) given = omega arith
 
-five_digits : (n : ℕ) → n < 100000 → length (decimal n) ≤ 5
-five_digits n h = length-decimal-le 5 n (omega arith) (omega arith) (omega arith)
-
-counts_short : (accepted refused : ℕ) → accepted < 100000 → refused < 100000 → length (counts accepted refused) ≤ 29
-counts_short accepted refused one other = omega (arith, joined_short 10 (accepted ∷ refused ∷ []) (5 ∷ 5 ∷ []) (five_digits accepted one, (five_digits refused other, tt)))
-
 pub table_short : (lines : List Line) → length lines < 100000 → length (table lines) ≤ 8192
 table_short lines few =
     let b = (replayed lines).book in
-    let days = lines_short (day_line b) 116 0 (min b.today 64) (λ day h. day_short (calls_in lines) day) in
+    let accepted = (replayed lines).accepted in
+    let refused = (replayed lines).refused in
     let both = counts_are_lines lines in
-    let ends = counts_short (replayed lines).accepted (replayed lines).refused (omega arith) (omega arith) in
-    let two = length-append (flat_map (day_line b) (closed_days b)) (counts (replayed lines).accepted (replayed lines).refused) in
-    omega arith
+    omega (
+      arith,
+      length-append (flat_map (day_line b) (closed_days b)) (counts accepted refused),
+      lines_short (day_line b) 116 (closed_days b) (λ k d below. day_short (calls_in lines) _),
+      length-range_with_len 0 (min b.today 64),
+      length-joined 10 (accepted ∷ refused ∷ []),
+      any_number accepted (omega arith),
+      any_number refused (omega arith),
+    )
 
 pub table_of_short : (file : List ℕ) (r : Replayed) (lines : List Line) → HasLines file lines → r ≡ replayed lines → length (table_of r) ≤ 8192
 table_of_short file r lines has is = subst (λ r. length (table_of r) ≤ 8192) (sym is) (table_short lines (omega (arith, few_lines_of file lines has)))

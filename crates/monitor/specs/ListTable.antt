@@ -1,13 +1,15 @@
 -- The participants with the highest fail rates as a text: both lists over a run of days, by number and then by value.
-use Rattle.std.specs.Prelude.{ℕ, List, [], ◌∷◌, ◌++◌, codes, Result, Ok, Err}
+use Rattle.std.specs.Prelude.{ℕ, List, [], ◌∷◌, ◌++◌, codes, Result, Ok, Err, if◌then◌else◌}
 use Rattle.std.specs.List.{flat_map}
 use Rattle.arrayvec.specs.ArrayVec.{ArrayVec}
 use Rattle.book.specs.declared.book.Book.{Book}
 use Rattle.book.specs.declared.calls.Refusal.{Refusal}
+use Rattle.book.specs.declared.calls.Refusal.TheVariants.{NotClosed}
 use Rattle.lines.specs.declared.reader.Line.{Line}
 use Rattle.ranking.specs.declared.participant.Participant.{Participant}
 use Rattle.ranking.specs.declared.runs.Measure.{Measure}
 use Rattle.ranking.specs.declared.runs.Measure.TheVariants.{Number, Value}
+use Rattle.reports.specs.Reports.{is_run}
 use Rattle.ranking.specs.Runs.{list_answer}
 use Rattle.monitor.specs.declared.days.Days.{Days}
 use Rattle.monitor.specs.declared.replay.Replayed.{Replayed}
@@ -37,14 +39,13 @@ given_list m (Err refusal) = []
 abbrev pub list_lines : ℕ → ℕ → Book → Measure → List ℕ
 list_lines first last b m = given_list m (list_answer first last m b)
 
--- both lists, by number first; where the one is refused, so is the other
-abbrev pub both_lists : ℕ → ℕ → Book → Result (ArrayVec Participant) Refusal → List ℕ
-both_lists first last b (Ok by_number) = list_lines first last b Number ++ list_lines first last b Value
-both_lists first last b (Err refusal) = refused_text refusal
+-- both lists, by number first
+abbrev pub both_lists : ℕ → ℕ → Book → List ℕ
+both_lists first last b = list_lines first last b Number ++ list_lines first last b Value
 
--- the names line, and the lists of a run of days
+-- the names line, and the lists of a run of days, or that it is refused
 abbrev pub lists_over : ℕ → ℕ → Book → List ℕ
-lists_over first last b = list_names ++ both_lists first last b (list_answer first last Number b)
+lists_over first last b = list_names ++ (if is_run first last b then both_lists first last b else refused_text NotClosed)
 
 -- the lists of a file that was replayed
 abbrev pub lists_of : Days → Replayed → List ℕ

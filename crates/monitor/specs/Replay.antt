@@ -80,10 +80,18 @@ replayed lines = record {
 
 -- ---- what comes back
 
--- 10: a faulty file
+-- what a file leaves that is not faulty
+abbrev pub IsReplayed : List ℕ → Replayed → Type 0
+IsReplayed file r = (lines : List Line) × HasLines file lines × (r ≡ replayed lines)
+
+-- 10: a faulty file is refused by it
+abbrev pub IsRefused : List ℕ → Refusal → Type 0
+IsRefused file refusal = IsFaulty file × (refusal ≡ FaultyFile)
+
+-- what comes back for a file
 abbrev pub IsReplayOf : List ℕ → Result Replayed Refusal → Type 0
-IsReplayOf file (Ok r) = (lines : List Line) × HasLines file lines × (r ≡ replayed lines)
-IsReplayOf file (Err refusal) = IsFaulty file × (refusal ≡ FaultyFile)
+IsReplayOf file (Ok r) = IsReplayed file r
+IsReplayOf file (Err refusal) = IsRefused file refusal
 
 -- The rows of a book balance against the calls of a file and their answers.
 abbrev pub BalancesFor : List ℕ → Book → Type 0

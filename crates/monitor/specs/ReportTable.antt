@@ -1,12 +1,13 @@
 -- The reports of a call file: a line for each category, 0 to 9, over a run of days.
-use Rattle.std.specs.Prelude.{ℕ, ◌+◌, List, [], ◌∷◌, ◌++◌, codes, Option, None, Some, Result, Ok, Err}
+use Rattle.std.specs.Prelude.{ℕ, ◌+◌, List, [], ◌∷◌, ◌++◌, codes, Option, None, Some, Result, Ok, Err, if◌then◌else◌}
 use Rattle.std.specs.List.{range_with_len, flat_map}
 use Rattle.book.specs.Limits.{category_count}
 use Rattle.book.specs.declared.book.Book.{Book}
 use Rattle.book.specs.declared.calls.Refusal.{Refusal}
+use Rattle.book.specs.declared.calls.Refusal.TheVariants.{NotClosed}
 use Rattle.lines.specs.declared.reader.Line.{Line}
 use Rattle.reports.specs.declared.report.Report.{Report}
-use Rattle.reports.specs.Reports.{report_answer}
+use Rattle.reports.specs.Reports.{is_run, report_answer}
 use Rattle.monitor.specs.declared.days.Days.{Days}
 use Rattle.monitor.specs.declared.replay.Replayed.{Replayed}
 use Rattle.monitor.specs.Days.{run_of}
@@ -40,14 +41,13 @@ given_report first last category (Err refusal) = []
 abbrev pub category_line : ℕ → ℕ → Book → ℕ → List ℕ
 category_line first last b category = given_report first last category (report_answer first last category b)
 
--- categories 0 to 9; where the report over all categories is refused, so are the others
-abbrev pub category_lines : ℕ → ℕ → Book → Result Report Refusal → List ℕ
-category_lines first last b (Ok r) = flat_map (category_line first last b) (range_with_len 0 (category_count + 1))
-category_lines first last b (Err refusal) = refused_text refusal
+-- those of categories 0 to 9
+abbrev pub category_lines : ℕ → ℕ → Book → List ℕ
+category_lines first last b = flat_map (category_line first last b) (range_with_len 0 (category_count + 1))
 
--- the names line, and the lines of a run of days
+-- the names line, and the lines of a run of days, or that it is refused
 abbrev pub reports_over : ℕ → ℕ → Book → List ℕ
-reports_over first last b = report_names ++ category_lines first last b (report_answer first last 0 b)
+reports_over first last b = report_names ++ (if is_run first last b then category_lines first last b else refused_text NotClosed)
 
 -- the reports of a file that was replayed
 abbrev pub reports_of : Days → Replayed → List ℕ

@@ -31,6 +31,7 @@ pub fn texts_fit()
 {}
 
 /// The worked files have the texts that were worked by hand, and the worked rows theirs.
+#[tactic(auto, using(crate::proofs::WorkedTexts::texts_hold, crate::proofs::WorkedTexts::rows_hold))]
 pub fn worked_texts()
     ensures texts { TextsHold }
     ensures rows { RowsHold }

@@ -3,14 +3,15 @@
 ghost use Rattle.std.specs.Prelude.{◌≡◌, ◌+◌, ◌≤◌, ◌++◌, [], length};
 ghost use Rattle.std.specs.List.{flat_map};
 ghost use Rattle.monitor.specs.Texts.{IsTextOf};
-ghost use Rattle.monitor.specs.ListTable.{measure_text, participant_line, list_lines, lists_over, lists_of, lists};
+ghost use Rattle.monitor.specs.ListTable.{measure_text, participant_line, list_lines, both_lists, lists_over, lists_of, lists};
 
 use crate::days::Days;
 use crate::page::{FAULT, Page, push, push_numbers, push_refused};
-use crate::replay::{Replayed, replay};
+use crate::replay::Replayed;
 use book::book::Book;
 use ranking::participant::Participant;
 use ranking::runs::{Measure, highest_rates};
+use reports::run::Run;
 
 /// As many bytes as the lists may take.
 pub const LIST_ROOM: usize = 8192;
@@ -51,19 +52,23 @@ fn push_list<const N: usize>(page: &mut Page<N>, measure: Measure, list: &[Parti
 }
 
 /// The lines of a list; where it is refused there is none.
-fn push_highest<const N: usize>(
-    page: &mut Page<N>,
-    book: &Book,
-    first: u64,
-    last: u64,
-    measure: Measure,
-)
-    requires { length page.old.items + length (list_lines first last book.now measure) ≤ N }
-    ensures { page.new.items ≡ page.old.items ++ list_lines first last book.now measure }
+fn push_highest<const N: usize>(page: &mut Page<N>, book: &Book, run: Run, measure: Measure)
+    requires { length page.old.items + length (list_lines run.first run.last book.now measure) ≤ N }
+    ensures { page.new.items ≡ page.old.items ++ list_lines run.first run.last book.now measure }
 {
-    if let Ok(list) = highest_rates(book, first, last, measure) {
+    if let Ok(list) = highest_rates(book, run.first, run.last, measure) {
         push_list(page, measure, &list);
     }
+}
+
+/// The lines of both lists, by number first.
+#[tactic(auto, using(crate::proofs::Joined::two_parts))]
+fn push_both<const N: usize>(page: &mut Page<N>, book: &Book, run: Run)
+    requires { length page.old.items + length (both_lists run.first run.last book.now) ≤ N }
+    ensures { page.new.items ≡ page.old.items ++ both_lists run.first run.last book.now }
+{
+    push_highest(page, book, run, Measure::Number);
+    push_highest(page, book, run, Measure::Value);
 }
 
 /// The names line, and both lists over a run of days, or that it is refused.
@@ -72,17 +77,15 @@ fn push_run<const N: usize>(page: &mut Page<N>, book: &Book, first: u64, last: u
     ensures { page.new.items ≡ page.old.items ++ lists_over first last book.now }
 {
     push(page, b"measure,code,fails,total\n");
-    match highest_rates(book, first, last, Measure::Number) {
-        Ok(by_number) => {
-            push_list(page, Measure::Number, &by_number);
-            push_highest(page, book, first, last, Measure::Value);
-        }
+    match Run::of(book, first, last) {
+        Ok(run) => push_both(page, book, run),
         Err(refusal) => push_refused(page, refusal),
     }
 }
 
 /// The lists of a file that was replayed.
 // As `push_reports` but for the text.
+#[tactic(auto, using(crate::proofs::Listed::lists_short))]
 fn push_lists(page: &mut Page<LIST_ROOM>, replayed: &Replayed, days: Days)
     requires { page.old.items ≡ [] }
     ensures { page.new.items ≡ lists_of days replayed.now }
@@ -97,8 +100,9 @@ pub fn write_lists(file: &[u8], days: Days, page: &mut Page<LIST_ROOM>)
     ensures { IsTextOf (lists days) file.now page.new.items }
 {
     page.clear();
-    match replay(file) {
-        Ok(replayed) => push_lists(page, &replayed, days),
+    let mut replayed = Replayed::fresh();
+    match replayed.replay(file) {
+        Ok(()) => push_lists(page, &replayed, days),
         Err(_) => push(page, FAULT),
     }
 }

@@ -1,7 +1,7 @@
 //! A call file replayed on a fresh book.
 
-ghost use Rattle.std.specs.Prelude.{◌≡◌, IfOk, IfErr};
-ghost use Rattle.monitor.specs.Replay.{IsSound, IsFaulty, IsReplayOf, BalancesFor, answer_to_line, after_line, is_accepted};
+ghost use Rattle.std.specs.Prelude.{◌≡◌, [], IfOk, IfErr};
+ghost use Rattle.monitor.specs.Replay.{IsSound, IsReplayed, IsRefused, IsReplayOf, BalancesFor, answer_to_line, after_line, is_accepted, replayed};
 
 use book::book::Book;
 use book::calls::{Answer, Refusal};
@@ -51,7 +51,7 @@ impl LineAnswer {
 pub(crate) fn lines_of(file: &[u8]) -> Result<Lines<'_>, Refusal>
     ensures sound { IfOk result (λ lines. IsSound file.now lines.text.now) }
     ensures start { IfOk result (λ lines. lines.at ≡ 0) }
-    ensures faulty { IfErr result (λ refusal. IsFaulty file.now × (refusal ≡ Refusal.FaultyFile)) }
+    ensures faulty { IfErr result (λ refusal. IsRefused file.now refusal) }
 {
     if file.len() > FILE_LIMIT {
         return Err(Refusal::FaultyFile);
@@ -73,25 +73,43 @@ pub(crate) fn make(book: &mut Book, line: Line) -> LineAnswer
     }
 }
 
-/// The lines of a file, one after another, made on a fresh book. Refused by 10: a faulty file.
+impl Replayed {
+    /// No line yet: a fresh book.
+    pub(crate) fn fresh() -> Replayed
+        ensures { result ≡ replayed [] }
+    {
+        Replayed {
+            book: Book::fresh(),
+            accepted: 0,
+            refused: 0,
+        }
+    }
+
+    /// The lines of a file, one after another, made in place: a book handed back would be copied. Refused by 10: a faulty file.
+    pub(crate) fn replay(&mut self, file: &[u8]) -> Answer
+        requires fresh { self.old ≡ replayed [] }
+        ensures replays { IfOk result (λ _. IsReplayed file.now self.new) }
+        ensures balances { IfOk result (λ _. BalancesFor file.now self.new.book) }
+        ensures faulty { IfErr result (λ refusal. IsRefused file.now refusal) }
+    {
+        let lines = lines_of(file)?;
+        for line in lines {
+            if make(&mut self.book, line).is_accepted() {
+                self.accepted += 1;
+            } else {
+                self.refused += 1;
+            }
+        }
+        Ok(())
+    }
+}
+
+/// What the lines of a file leave, made one after another on a fresh book. Refused by 10: a faulty file.
 pub fn replay(file: &[u8]) -> Result<Replayed, Refusal>
     ensures replays { IsReplayOf file.now result }
     ensures balances { IfOk result (λ r. BalancesFor file.now r.book) }
 {
-    let lines = lines_of(file)?;
-    let mut book = Book::fresh();
-    let mut accepted: u64 = 0;
-    let mut refused: u64 = 0;
-    for line in lines {
-        if make(&mut book, line).is_accepted() {
-            accepted += 1;
-        } else {
-            refused += 1;
-        }
-    }
-    Ok(Replayed {
-        book,
-        accepted,
-        refused,
-    })
+    let mut replayed = Replayed::fresh();
+    replayed.replay(file)?;
+    Ok(replayed)
 }

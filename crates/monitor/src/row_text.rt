@@ -43,6 +43,7 @@ pub(crate) fn push_row<const N: usize>(page: &mut Page<N>, day: u64, row: Row)
 }
 
 /// Any numbers as a line, where 21 bytes are left for each.
+#[tactic(auto, using(crate::proofs::Lengths::any_numbers))]
 fn push_line<const N: usize>(page: &mut Page<N>, numbers: &[u64])
     requires { length page.old.items + 21 * length numbers.now ≤ N }
     ensures { page.new.items ≡ page.old.items ++ joined 10 numbers.now }

@@ -6,7 +6,7 @@ ghost use Rattle.monitor.specs.Texts.{IsTextOf};
 ghost use Rattle.monitor.specs.Table.{day_line, closed_days, counts, table_of, table};
 
 use crate::page::{FAULT, Page, push, push_numbers};
-use crate::replay::{Replayed, replay};
+use crate::replay::Replayed;
 use crate::row_text::push_row;
 use book::book::Book;
 use book::limits::DAYS;
@@ -63,8 +63,9 @@ pub fn write_table(file: &[u8], page: &mut Page<TABLE_ROOM>)
     ensures { IsTextOf table file.now page.new.items }
 {
     page.clear();
-    match replay(file) {
-        Ok(replayed) => push_table(page, &replayed),
+    let mut replayed = Replayed::fresh();
+    match replayed.replay(file) {
+        Ok(()) => push_table(page, &replayed),
         Err(_) => push(page, FAULT),
     }
 }

@@ -1,6 +1,6 @@
 pub mod Order
 pub mod Counts
-pub mod Lists
 pub mod Insertion
+pub mod Lists
 pub mod FirstRanks
 pub mod Sums

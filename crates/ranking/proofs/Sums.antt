@@ -1,10 +1,11 @@
 -- A participant's summaries over a run of days, and all forty participants: each goes on by one.
-use Rattle.std.proofs.Common.{◌≡◌, ℕ, zero, suc, ◌+◌, ◌-◌, ◌<◌, ◌≤◌, min, List, [], ◌∷◌, ◌++◌, length, get_or, map, refl, sym, ◌∙◌, ap, ⊎_elim, arith}
-use Rattle.std.specs.Prelude.{Bool, true, false, ◌==◌, count_by}
+use Rattle.std.proofs.Common.{◌≡◌, ℕ, zero, suc, ◌+◌, ◌-◌, ◌<◌, ◌≤◌, min, List, [], ◌∷◌, ◌++◌, length, get_or, map, refl, sym, ◌∙◌, ap, arith}
+use Rattle.std.specs.Prelude.{◌==◌, nat_le, count_by}
 use Rattle.std.specs.List.{range_with_len}
-use Rattle.std.proofs.lemmas.Bool.{cases_lt}
 use Rattle.std.proofs.lemmas.Bool.Decides.{nat_tests}
-use Rattle.std.proofs.lemmas.List.FromFn.{fill_by_all}
+use Rattle.std.proofs.lemmas.List.{same_lists}
+use Rattle.std.proofs.lemmas.List.FromFn.{length-map-range_with_len, get_or-map-range_with_len}
+use Rattle.std.proofs.lemmas.List.Sums.{sum_by-cons}
 use Rattle.book.specs.declared.figures.Summary.{Summary}
 use Rattle.book.specs.declared.book.Book.{Book}
 use Rattle.book.specs.Limits.{largest_code}
@@ -14,7 +15,7 @@ use Rattle.ranking.specs.declared.participant.Participant.{Participant}
 use Rattle.ranking.specs.declared.runs.Measure.{Measure}
 use Rattle.ranking.specs.Meaning.{CodesRise}
 use Rattle.ranking.specs.Runs.{summaries_over, participant_of, participants_of}
-use Rattle.ranking.proofs.Counts.{one_if, count_by-cons}
+use Rattle.ranking.proofs.Counts.{one_if}
 
 add_summary-summaries_over : (summaries : List Summary) (s : Summary) → add_summary (summaries_over summaries) s ≡ summaries_over (summaries ++ s ∷ [])
 unfolding summaries_over
@@ -32,16 +33,13 @@ unfolding summaries_over
 summaries_none f first = ap (λ n. summaries_over (map f (range_with_len first n))) (let e : 0 ≡ first - first = omega arith in e)
 
 -- all forty, by places from 0 on
-next_ones : (f : ℕ → Participant) (low n : ℕ) → map (λ place. f (place + 1)) (range_with_len low n) ≡ map f (range_with_len (low + 1) n)
-next_ones f low zero = refl
-next_ones f low (suc n) = ap (λ l. f (low + 1) ∷ l) (next_ones f (low + 1) n)
-
 pub all_forty : (first last : ℕ) (m : Measure) (b : Book) (all : List Participant) → length all ≡ 40
     → ((place : ℕ) (d : Participant) → place < 40 → get_or all place d ≡ participant_of first last m b (place + 1)) → all ≡ participants_of first last m b
 unfolding participants_of
 all_forty first last m b all long each =
-    fill_by_all (λ place. participant_of first last m b (place + 1)) all 40 (participant_of first last m b 0) long (λ place below. each place (participant_of first last m b 0) below)
-    ∙ next_ones (participant_of first last m b) 0 40
+    let of = participant_of first last m b in
+    same_lists all (map of (range_with_len 1 40)) (omega (arith, length-map-range_with_len of 1 40))
+    (λ k d below. each k d (omega arith) ∙ sym (get_or-map-range_with_len of 1 40 k (k + 1) d (omega arith) (omega arith)))
 
 -- ---- their codes
 
@@ -50,24 +48,19 @@ module _ (f : ℕ → Participant) (has : (code : ℕ) → (f code).code ≡ cod
   codes_of low zero = refl
   codes_of low (suc n) = λ i. has low i ∷ codes_of (low + 1) n i
 
-  none_below : (code low n : ℕ) → code < low → count_by (λ (p : Participant). p.code == code) (map f (range_with_len low n)) ≡ 0
-  none_below code low zero below = refl
-  none_below code low (suc n) below =
-      let apart : one_if ((f low).code == code) ≡ 0 = ap (λ k. one_if (k == code)) (has low) ∙ ap one_if (let e : (low == code) ≡ false = grind (arith, nat_tests) in e) in
-      omega (arith, count_by-cons (λ (p : Participant). p.code == code) (f low) (map f (range_with_len (low + 1) n)), none_below code (low + 1) n (omega arith))
+  -- from a code on each has its own
+  counted_from : (low n code : ℕ) → count_by (λ (p : Participant). p.code == code) (map f (range_with_len low n)) ≤ one_if (nat_le low code)
+  counted_from low zero code = omega arith
+  counted_from low (suc n) code = omega (
+    arith,
+    sum_by-cons (λ (p : Participant). one_if (p.code == code)) (f low) (map f (range_with_len (low + 1) n)),
+    ap (λ k. one_if (k == code)) (has low),
+    counted_from (low + 1) n code,
+    (let e : one_if (low == code) + one_if (nat_le (low + 1) code) ≤ one_if (nat_le low code) = grind (arith, nat_tests) in e),
+  )
 
   pub distinct : (low n code : ℕ) → count_by (λ (p : Participant). p.code == code) (map f (range_with_len low n)) ≤ 1
-  distinct low zero code = omega arith
-  distinct low (suc n) code = ⊎_elim
-      (λ above. omega (arith, count_by-cons (λ (p : Participant). p.code == code) (f low) (map f (range_with_len (low + 1) n)), most ((f low).code == code), none_below code (low + 1) n above))
-      (λ under.
-      let apart : one_if ((f low).code == code) ≡ 0 = ap (λ k. one_if (k == code)) (has low) ∙ ap one_if (let e : (low == code) ≡ false = grind (arith, nat_tests) in e) in
-      omega (arith, count_by-cons (λ (p : Participant). p.code == code) (f low) (map f (range_with_len (low + 1) n)), apart, distinct (low + 1) n code))
-      (cases_lt code (low + 1))
-    where
-      most : (b : Bool) → one_if b ≤ 1
-      most true = omega arith
-      most false = omega arith
+  distinct low n code = grind (arith, counted_from low n code)
 
 pub codes : CodesRise
 unfolding participants_of

@@ -7,6 +7,7 @@ ghost use Rattle.reports.specs.Examples.{ExamplesHold};
 
 pub mod nine;
 pub mod report;
+pub mod run;
 mod sums;
 
 /// A report is that of the rows which the row call gives for its days.

@@ -1,7 +1,8 @@
 //! The report of a run of days: the sums of its rows, its fail rates and its average duration. docs/RULES.md, 'A report'.
 ghost use Rattle.std.specs.Prelude.{◌≡◌};
-ghost use Rattle.reports.specs.Reports.{is_run, report_of, report_answer};
+ghost use Rattle.reports.specs.Reports.{report_of, report_answer};
 
+use crate::run::Run;
 use crate::sums::sums;
 use book::book::Book;
 use book::calls::Refusal;
@@ -37,14 +38,6 @@ impl Report {
     }
 }
 
-/// Whether the first day is no later than the last, and the last is closed: no other run of days is reported or listed. A run is
-/// two numbers here and above, as callers have them: a struct would be made at each call and taken apart in it.
-pub fn is_run(book: &Book, first: u64, last: u64) -> bool
-    ensures { result ≡ is_run first last book.now }
-{
-    first <= last && book.is_closed(last)
-}
-
 /// The report from the first to the last day, both included, of a category, 0 for all nine together. Number 2: a category over
 /// 9; 9: the first day after the last, or the last not closed.
 pub fn single_report(book: &Book, first: u64, last: u64, category: u64) -> Result<Report, Refusal>
@@ -53,9 +46,7 @@ pub fn single_report(book: &Book, first: u64, last: u64, category: u64) -> Resul
     if category > CATEGORIES {
         return Err(Refusal::OutOfRange);
     }
-    if !is_run(book, first, last) {
-        return Err(Refusal::NotClosed);
-    }
-    let sums = sums(book, first, last, category)?;
+    let run = Run::of(book, first, last)?;
+    let sums = sums(book, run, category)?;
     Ok(Report::of(sums))
 }

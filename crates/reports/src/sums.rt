@@ -1,9 +1,11 @@
 //! The rows of a run of days, added up.
 ghost use Rattle.std.specs.Prelude.{◌≡◌, ◌≤◌, true, Ok};
 ghost use Rattle.book.specs.Limits.{category_count};
+ghost use Rattle.book.specs.Rows.{is_closed};
 ghost use Rattle.reports.specs.Sums.{add_row, sums_of};
-ghost use Rattle.reports.specs.Reports.{is_run, rows_of};
+ghost use Rattle.reports.specs.Reports.{rows_of};
 
+use crate::run::Run;
 use book::book::Book;
 use book::calls::Refusal;
 use book::rows::Row;
@@ -22,13 +24,13 @@ fn add(sums: Row, row: Row) -> Row
 }
 
 /// The sums of the rows of a run of closed days and a category, 0 for all nine together. Each of these rows is given.
-pub(crate) fn sums(book: &Book, first: u64, last: u64, category: u64) -> Result<Row, Refusal>
-    requires run { is_run first last book.now ≡ true }
+pub(crate) fn sums(book: &Book, run: Run, category: u64) -> Result<Row, Refusal>
+    requires closed { is_closed run.last book.now ≡ true }
     requires category { category ≤ category_count }
-    ensures { result ≡ Ok (sums_of (rows_of first last category book.now)) }
+    ensures { result ≡ Ok (sums_of (rows_of run.first run.last category book.now)) }
 {
     let mut sums = Row::default();
-    for day in first..last + 1 {
+    for day in run.first..run.last + 1 {
         sums = add(sums, book.row(day, category)?);
     }
     Ok(sums)

@@ -37,18 +37,6 @@ fn full() -> Book {
     book
 }
 
-/// A call made by value.
-fn made(book: Book, call: Call) -> Outcome {
-    match call {
-        Call::Enter(entry) => book.enter(entry),
-        Call::Hold { id, side, on } => book.hold(id, side, on),
-        Call::Lack { id, lack } => book.lack(id, lack),
-        Call::Settle { id, part } => book.settle(id, part),
-        Call::Cancel { id } => book.cancel(id),
-        Call::Close => book.close(),
-    }
-}
-
 /// 1 where the call was accepted.
 fn accepted(answer: Answer) -> u64
     ensures { result ≤ 1 }
@@ -59,15 +47,14 @@ fn accepted(answer: Answer) -> u64
     }
 }
 
-/// So many calls of the full book, by value: how many were accepted.
-fn by_value<F: Fn(u64) -> Call>(times: u64, call: F) -> u64
+/// So many times something called by value: how many were accepted.
+fn by_value<F: Fn(Book, u64) -> Outcome>(mut book: Book, times: u64, call: F) -> u64
     requires { F.IsAlwaysCallable call }
     ensures { result ≤ times }
 {
-    let mut book = full();
     let mut count = 0;
     for n in 0..times {
-        let outcome = made(book, call(n));
+        let outcome = call(book, n);
         book = outcome.book;
         count += accepted(outcome.answer);
     }
@@ -75,14 +62,13 @@ fn by_value<F: Fn(u64) -> Call>(times: u64, call: F) -> u64
 }
 
 /// The same in place.
-fn in_place<F: Fn(u64) -> Call>(times: u64, call: F) -> u64
+fn in_place<F: Fn(&mut Book, u64) -> Answer>(mut book: Book, times: u64, call: F) -> u64
     requires { F.IsAlwaysCallable call }
     ensures { result ≤ times }
 {
-    let mut book = full();
     let mut count = 0;
     for n in 0..times {
-        count += accepted(book.apply(call(n)));
+        count += accepted(call(&mut book, n));
     }
     count
 }
@@ -171,21 +157,12 @@ pub extern "C" fn empty_closes_in_place(times: u64) -> u64
     closes_of(times, &Book::fresh(), closed_in_place)
 }
 
-/// A hold of the last pair, on and off.
-fn hold(n: u64) -> Call {
-    Call::Hold {
-        id: LAST_ID,
-        side: 1,
-        on: n % 2,
-    }
-}
-
 /// So many holds of the last pair, on and off: how many were accepted.
 #[unsafe(no_mangle)]
 pub extern "C" fn holds(times: u64) -> u64
     ensures { result ≤ times }
 {
-    by_value(times, hold)
+    by_value(full(), times, |book, n| book.hold(LAST_ID, 1, n % 2))
 }
 
 /// The same in place.
@@ -193,15 +170,13 @@ pub extern "C" fn holds(times: u64) -> u64
 pub extern "C" fn holds_in_place(times: u64) -> u64
     ensures { result ≤ times }
 {
-    in_place(times, hold)
-}
-
-/// A settle of one cent of the last pair.
-fn settle(_n: u64) -> Call {
-    Call::Settle {
-        id: LAST_ID,
-        part: 1,
-    }
+    in_place(full(), times, |book, n| {
+        book.apply(Call::Hold {
+            id: LAST_ID,
+            side: 1,
+            on: n % 2,
+        })
+    })
 }
 
 /// So many settles of one cent of the last pair: how many were accepted.
@@ -209,7 +184,7 @@ fn settle(_n: u64) -> Call {
 pub extern "C" fn settles(times: u64) -> u64
     ensures { result ≤ times }
 {
-    by_value(times, settle)
+    by_value(full(), times, |book, _| book.settle(LAST_ID, 1))
 }
 
 /// The same in place.
@@ -217,12 +192,12 @@ pub extern "C" fn settles(times: u64) -> u64
 pub extern "C" fn settles_in_place(times: u64) -> u64
     ensures { result ≤ times }
 {
-    in_place(times, settle)
-}
-
-/// An enter into the full book.
-fn enter(_n: u64) -> Call {
-    Call::Enter(entry_of(LAST_ID + 1))
+    in_place(full(), times, |book, _| {
+        book.apply(Call::Settle {
+            id: LAST_ID,
+            part: 1,
+        })
+    })
 }
 
 /// So many enters into the full book: how many were accepted, which is none.
@@ -230,7 +205,7 @@ fn enter(_n: u64) -> Call {
 pub extern "C" fn enters(times: u64) -> u64
     ensures { result ≤ times }
 {
-    by_value(times, enter)
+    by_value(full(), times, |book, _| book.enter(entry_of(LAST_ID + 1)))
 }
 
 /// The same in place.
@@ -238,7 +213,9 @@ pub extern "C" fn enters(times: u64) -> u64
 pub extern "C" fn enters_in_place(times: u64) -> u64
     ensures { result ≤ times }
 {
-    in_place(times, enter)
+    in_place(full(), times, |book, _| {
+        book.apply(Call::Enter(entry_of(LAST_ID + 1)))
+    })
 }
 
 /// The id of a turn.
@@ -254,38 +231,22 @@ fn id_at(turn: u64) -> u64
 pub extern "C" fn replaces(times: u64) -> u64
     ensures { result ≤ times }
 {
-    let mut book = full();
-    let mut count = 0;
-    for turn in 0..times {
-        let cancelled = book.cancel(id_at(turn));
-        let entered = cancelled.book.enter(entry_of(id_at(turn) + 1));
-        book = entered.book;
-        count += accepted(entered.answer);
-    }
-    count
+    by_value(full(), times, |book, turn| {
+        let id = id_at(turn);
+        book.cancel(id).book.enter(entry_of(id + 1))
+    })
 }
 
-/// So many times a pair is cancelled, so many ids before the one that is entered, in place: how many enters were accepted.
-fn replaced_in_place(times: u64, before: u64) -> u64
-    requires { before ≤ open_limit }
-    ensures { result ≤ times }
-{
-    let mut book = full();
-    let mut count = 0;
-    for turn in 0..times {
-        let id = id_at(turn) + 1;
-        let _ = book.apply(Call::Cancel { id: id - before });
-        count += accepted(book.apply(Call::Enter(entry_of(id))));
-    }
-    count
-}
-
-/// The same as `replaces`, in place.
+/// The same in place.
 #[unsafe(no_mangle)]
 pub extern "C" fn replaces_in_place(times: u64) -> u64
     ensures { result ≤ times }
 {
-    replaced_in_place(times, 1)
+    in_place(full(), times, |book, turn| {
+        let id = id_at(turn);
+        let _ = book.apply(Call::Cancel { id });
+        book.apply(Call::Enter(entry_of(id + 1)))
+    })
 }
 
 /// So many times the pair in the first place is cancelled and another entered behind the last: how many enters were accepted.
@@ -293,5 +254,9 @@ pub extern "C" fn replaces_in_place(times: u64) -> u64
 pub extern "C" fn replaces_first_in_place(times: u64) -> u64
     ensures { result ≤ times }
 {
-    replaced_in_place(times, OPEN_LIMIT as u64)
+    in_place(full(), times, |book, turn| {
+        let id = id_at(turn) + 1;
+        let _ = book.apply(Call::Cancel { id: id - LAST_ID });
+        book.apply(Call::Enter(entry_of(id)))
+    })
 }

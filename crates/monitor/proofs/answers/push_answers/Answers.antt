@@ -1,13 +1,12 @@
 use Rattle.std.proofs.Common.{⊎_elim, sym, arith, rules}
-use Rattle.monitor.proofs.Made
-use Rattle.monitor.proofs.Answered.{at_start, has_room, written_more, all_written}
+use Rattle.monitor.proofs.Answered.{none_written, has_room, written_more, all_written}
 use Rattle.monitor.proofs.answers.push_answers.Goals as goal
 
 pub loop-number-init : goal.loop-number-init
 loop-number-init c = record {
   can_next = (tt, tt);
   is_finite = tt;
-  writes = at_start _ _ _ _ _ (Made.at_start _ _ _ c.requires.short (search rules) (search rules) (search rules)) (search rules) (search rules);
+  writes = none_written _ _ _ _ _ c.requires.short (search rules) (search rules) (search rules) (search rules) (search rules);
 }
 
 pub push_answer-requires : goal.push_answer-requires
@@ -21,13 +20,13 @@ loop-number-preserved c =
     record {
       can_next = (tt, tt);
       is_finite = tt;
-      writes = rw steps.0.1 (written_more _ _ _ _ _ _ _ _ _ _ (rw (sym steps.0.0) at c.loop-number.invariant.writes) steps.1 c.make.ensures.answer c.make.ensures.book c.push_answer.ensures);
+      writes = rw steps.0.1 (written_more _ _ _ _ _ _ _ _ (rw (sym steps.0.0) at c.loop-number.invariant.writes) steps.1 c.make.ensures.answer _ _ c.make.ensures.book c.push_answer.ensures);
     }
 
 pub returns : goal.returns
 returns c =
     let writes = c.loop-number.invariant.writes in
     ⊎_elim
-    (λ over. absurd (omega (arith, over.1, writes.number, writes.stands.few, writes.stands.within, writes.stands.short)))
+    (λ over. absurd (omega (arith, over.1, writes.few, writes.reads.within, writes.reads.short)))
     (λ past. all_written _ _ _ _ _ writes past.1.0)
     c.in-None.ensures.steps

@@ -1,13 +1,13 @@
-use Rattle.std.proofs.Common.{rules, ◌∙◌, arith, sym}
+use Rattle.std.proofs.Common.{◌≡◌, arith, rules}
 use Rattle.monitor.specs.ReportTable.{category_line}
-use Rattle.monitor.proofs.Joined.{has_room, more, run_split, run_done}
+use Rattle.monitor.proofs.Joined.{numbers_room, numbers_more}
 use Rattle.monitor.proofs.report_table.push_categories.Goals as goal
 
 pub push_category-requires : goal.push_category-requires
-push_category-requires g c = (search rules, has_room _ _ _ _ _ _ _ c.loop-category.invariant (run_split (category_line c.args.first c.args.last c.args.book.now) c.loop-category.category 10 c.loop-category-test.true) c.requires)
+push_category-requires g c = (search rules, numbers_room (category_line c.args.run.first c.args.run.last c.args.book.now) c.loop-category.category 10 _ _ _ c.loop-category-test.true c.loop-category.invariant c.requires)
 
 pub loop-category-preserved : goal.loop-category-preserved
-loop-category-preserved g c = rw c.push_category.ensures (more _ _ _ _ (run_split (category_line c.args.first c.args.last c.args.book.now) c.loop-category.category 10 c.loop-category-test.true) ∙ c.loop-category.invariant)
+loop-category-preserved g c = numbers_more (category_line c.args.run.first c.args.run.last c.args.book.now) c.loop-category.category _ _ _ c.loop-category.invariant c.push_category.ensures
 
 pub returns : goal.returns
-returns g c = sym (run_done (category_line c.args.first c.args.last c.args.book.now) c.loop-category.page.items c.loop-category.category 10 (omega arith)) ∙ c.loop-category.invariant
+returns g c = let all : c.loop-category.category ≡ 10 = omega arith in rw all at c.loop-category.invariant

@@ -6,4 +6,4 @@ use Rattle.ranking.proofs.runs.participants.Given as goal
 abbrev pub invariant-loop-place : goal.invariant-loop-place
 invariant-loop-place l =
     (length l.all ≡ 40) ×
-    ((k : ℕ) (d : Participant) → k < l.place → get_or l.all k d ≡ participant_of l.first l.last l.measure l.book (k + 1))
+    ((k : ℕ) (d : Participant) → k < l.place → get_or l.all k d ≡ participant_of l.fn.run.first l.fn.run.last l.measure l.book (k + 1))

@@ -1,8 +1,7 @@
-use Rattle.std.proofs.Common.{arith, rules, [], ap}
-use Rattle.monitor.proofs.Made
-use Rattle.monitor.proofs.Made.{short_rest}
-use Rattle.monitor.proofs.Replays.{counted_more, replays, balances_for}
-use Rattle.monitor.proofs.replay.replay.Goals as goal
+use Rattle.std.proofs.Common.{arith, rules, ap}
+use Rattle.monitor.proofs.Made.{short_rest, at_start}
+use Rattle.monitor.proofs.Replays.{leaves_all, counted_more, replays, balances_for}
+use Rattle.monitor.proofs.replay.Replayed.replay.Goals as goal
 
 pub loop-line-init : goal.loop-line-init
 loop-line-init c = record {
@@ -11,10 +10,8 @@ loop-line-init c = record {
   counts = record {
     rest = c.in_ok-lines.lines.text.now;
     sound = c.in_ok-lines.ensures.sound;
-    made = [];
-    stands = Made.at_start _ _ _ (short_rest _ _ c.in_ok-lines.ensures.sound) (search rules) (search rules) (search rules);
-    are_accepted = search rules;
-    are_refused = search rules;
+    reads = at_start _ _ _ (short_rest _ _ c.in_ok-lines.ensures.sound) (search rules) (search rules) (λ lines. leaves_all _ c.requires.fresh lines);
+    few = omega (arith, ap (λ r. r.accepted) c.requires.fresh, ap (λ r. r.refused) c.requires.fresh);
   };
 }
 

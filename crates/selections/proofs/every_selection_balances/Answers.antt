@@ -1,5 +1,0 @@
-use Rattle.selections.proofs.Whole.{balance}
-use Rattle.selections.proofs.every_selection_balances.Goals as goal
-
-pub returns : goal.returns
-returns c = balance
