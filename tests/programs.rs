@@ -1,6 +1,6 @@
 //! The texts that the proved programs write of a file, and what the reference says that they are.
 
-use crate::reference::texts::{answers, day_of, lists, reports, table, Replayed};
+use crate::reference::texts::{answers, lists, parse_day, reports, table, Replayed};
 use std::io::Write;
 use std::path::PathBuf;
 use std::process::{Command, Stdio};
@@ -36,7 +36,7 @@ impl Days {
     fn run(&self) -> Option<(u64, u64)> {
         match self {
             Days::AllClosed => None,
-            Days::Run([first, last]) => Some((day_of(first), day_of(last))),
+            Days::Run([first, last]) => Some((parse_day(first), parse_day(last))),
             Days::One(day) => Some((*day as u64, *day as u64)),
         }
     }

@@ -115,7 +115,7 @@ fn closed_days_of(replayed: &Replayed, run: Option<(u64, u64)>) -> Option<(u64, 
 }
 
 /// A day as a program is given it: each number over 63 is a day that no book closes.
-pub fn day_of(digits: &str) -> u64 {
+pub fn parse_day(digits: &str) -> u64 {
     digits.parse().map_or(DAYS, |day: u64| day.min(DAYS))
 }
 

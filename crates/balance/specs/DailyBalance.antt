@@ -10,9 +10,12 @@ use Rattle.book.specs.Limits.{day_limit, category_count}
 use Rattle.book.specs.Calls.{Answer}
 use Rattle.book.specs.Answers.{answer_to}
 use Rattle.book.specs.Book.{book_after, fresh_book}
-use Rattle.book.specs.Rows.{row_of, figures_of, row_answer}
+use Rattle.book.specs.Rows.{row_answer}
 use Rattle.history.specs.History.{accepted_onto, closed, book_of, history_of}
-use Rattle.history.specs.Sums.{Measure, in_measure, over_pairs, counts}
+use Rattle.book.specs.declared.figures.Measure.{Measure}
+use Rattle.book.specs.Figures.{in_measure}
+use Rattle.history.specs.Sums.{over_pairs, counts}
+use Rattle.counted.specs.Counted.{row_at}
 use Rattle.selections.specs.Readings.{due_of, cancelled_of, part_settled_of}
 
 -- ---- the rows
@@ -29,16 +32,16 @@ rows_of b d c = row_answer d c b
 abbrev pub ClosedDaysAreGiven : Type 0
 ClosedDaysAreGiven =
     (calls : List Call) (c d : ℕ) → c ≤ category_count
-    → rows_of (book_of calls) d c ≡ (if closed d (history_of calls) then Ok (row_of (figures_of (book_of calls).cells d c)) else Err NotClosed)
+    → rows_of (book_of calls) d c ≡ (if closed d (history_of calls) then Ok (row_at (book_of calls) d c) else Err NotClosed)
 
 -- securities and cash fails together
-abbrev pub fails : Measure → Row → ℕ
-fails m row = in_measure m row.securities + in_measure m row.cash
+abbrev pub fails_of : Measure → Row → ℕ
+fails_of m row = in_measure m row.securities + in_measure m row.cash
 
 -- The previous day's fails are those of the row given for the day before, same category; before day 0 there are none.
 abbrev pub ArePrevious : Measure → ℕ → ℕ → Rows → ℕ → Type 0
 ArePrevious m c zero rows n = n ≡ 0
-ArePrevious m c (suc d) rows n = (row : Row) × (rows d c ≡ Ok row) × (fails m row ≡ n)
+ArePrevious m c (suc d) rows n = (row : Row) × (rows d c ≡ Ok row) × (fails_of m row ≡ n)
 
 -- ---- the readings of the calls h, over the pairs that the category counts
 
@@ -63,7 +66,7 @@ pub record Balances (m : Measure) (c d : ℕ) (h : List Call) (rows : Rows) : Ty
   pub given : rows d c ≡ Ok row
   pub previous : ℕ
   pub are_previous : ArePrevious m c d rows previous
-  pub balance : in_measure m row.settled + fails m row + cancelled m c d h ≡ previous + newly_due m c d h + part_settled m c d h
+  pub balance : in_measure m row.settled + fails_of m row + cancelled m c d h ≡ previous + newly_due m c d h + part_settled m c d h
 
 -- on each closed day and for each category, 0 to 9
 abbrev pub RowsBalance : List Call → Rows → Type 0

@@ -8,8 +8,15 @@ pub use Rattle.book.specs.declared.figures.Summary.{Summary}
 use Rattle.book.specs.declared.sides.Sides.{Sides}
 use Rattle.book.specs.declared.sides.Sides.TheVariants.{Securities, Cash, OneEach}
 pub use Rattle.book.specs.declared.figures.Posting.{Posting}
+use Rattle.book.specs.declared.figures.Measure.{Measure}
+use Rattle.book.specs.declared.figures.Measure.TheVariants.{Number, Value}
 
 -- ---- figures
+
+-- a figure in a measure: in number of SIs, or in value in cents
+abbrev pub in_measure : Measure → Figure → ℕ
+in_measure Number f = f.number
+in_measure Value f = f.value
 
 -- the sum of two figures, as it is stored
 abbrev pub add_figure : Figure → Figure → Figure
@@ -41,8 +48,8 @@ no_summary = record { total = nothing; fails = nothing }
 -- ---- what a pair adds
 
 -- twice the part as settled value, and 2 SIs settled if it is the pair's first part today
-abbrev pub settled : ℕ → Bool → Cell
-settled part first = record none { settled = record { number = (if first then 2 else 0); value = capped (part * 2) } }
+abbrev pub settled_part : ℕ → Bool → Cell
+settled_part part first = record none { settled = record { number = (if first then 2 else 0); value = capped (part * 2) } }
 
 -- two SIs, and one, worth a value each
 abbrev pub two : ℕ → Figure

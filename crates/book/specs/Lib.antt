@@ -2,6 +2,7 @@ pub mod Limits
 pub mod Rules
 pub mod Pairs
 pub mod Sides
+pub mod SidesTable
 pub mod Figures
 pub mod Calls
 pub mod Answers

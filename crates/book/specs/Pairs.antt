@@ -49,6 +49,12 @@ lack_number lack.Cash = 2
 abbrev pub lack_of : ℕ → Lack
 lack_of n = if n == 0 then lack.Nothing else if n == 1 then lack.Securities else lack.Cash
 
+-- The case of a case's number is that case.
+pub record NumbersMatch : Type 0 where
+  pub kinds : (k : Kind) → kind_of (kind_number k) ≡ k
+  pub sides : (s : Side) → side_of (side_number s) ≡ s
+  pub lacks : (l : Lack) → lack_of (lack_number l) ≡ l
+
 -- from the lowest to the highest, both included
 abbrev pub is_within : ℕ → ℕ → ℕ → Bool
 is_within low high n = nat_le low n && nat_le n high

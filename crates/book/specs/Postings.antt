@@ -4,7 +4,7 @@ use Rattle.std.specs.List.{range_with_len}
 use Rattle.std.specs.Option.{option_to_list}
 use Rattle.book.specs.Pairs.{Pair, entered}
 use Rattle.book.specs.Sides.{sides_at_close, sides_when_late}
-use Rattle.book.specs.Figures.{Cell, settled, fail}
+use Rattle.book.specs.Figures.{Cell, settled_part, fail}
 use Rattle.book.specs.Calls.{Call}
 use Rattle.book.specs.declared.calls.Call.TheVariants.{Enter, Settle, Close}
 use Rattle.book.specs.declared.book.Book.{Book}
@@ -34,7 +34,7 @@ is_first_part today (Some day) = not (day == today)
 
 -- Today gains the part.
 abbrev pub part_posting : ℕ → ℕ → Pair → Posting
-part_posting today part p = posting today p (settled part (is_first_part today p.last_part))
+part_posting today part p = posting today p (settled_part part (is_first_part today p.last_part))
 
 -- ---- close
 

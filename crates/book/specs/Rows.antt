@@ -1,9 +1,10 @@
--- A row, as it is given for a closed day. docs/RULES.md, 'A row'.
+-- A row and a summary, as they are given for a closed day. docs/RULES.md, 'A row'.
 use Rattle.std.specs.Prelude.{ℕ, Bool, not, ◌&&◌, nat_lt, ◌==◌, List, [], ◌∷◌, take, drop, slice_index_or, if◌then◌else◌, Result, Ok, Err}
 use Rattle.std.specs.List.{fold}
-use Rattle.book.specs.Limits.{day_limit, category_count}
+use Rattle.book.specs.Limits.{day_limit, category_count, largest_code}
 use Rattle.book.specs.Rules.{rule, first_of}
-use Rattle.book.specs.Figures.{Cell, none, place, add_cell, add_figure}
+use Rattle.book.specs.Pairs.{is_within}
+use Rattle.book.specs.Figures.{Cell, Summary, none, no_summary, place, add_cell, add_figure}
 use Rattle.book.specs.Calls.{Refusal}
 use Rattle.book.specs.declared.calls.Refusal.TheVariants.{OutOfRange, NotClosed}
 use Rattle.book.specs.declared.book.Book.{Book}
@@ -35,3 +36,16 @@ row_answer day category b = first_of (
     rule (nat_lt category_count category) (Err OutOfRange)
     ∷ rule (not (is_closed day b)) (Err NotClosed)
     ∷ []) (Ok (row_of (figures_of b.cells day category)))
+
+-- ---- participants
+
+-- the summary of a day and participant
+abbrev pub summary_at : List Summary → ℕ → ℕ → Summary
+summary_at summaries day code = slice_index_or summaries (place largest_code day code) no_summary
+
+-- A summary too is given for a closed day only: a code outside 1 to 40 is 2, a day not closed 9.
+abbrev pub summary_answer : ℕ → ℕ → Book → Result Summary Refusal
+summary_answer day code b = first_of (
+    rule (not (is_within 1 largest_code code)) (Err OutOfRange)
+    ∷ rule (not (is_closed day b)) (Err NotClosed)
+    ∷ []) (Ok (summary_at b.summaries day code))

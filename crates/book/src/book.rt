@@ -70,13 +70,22 @@ fn put(pairs: &mut ArrayVec<Pair, OPEN_LIMIT>, place: usize, pair: Pair)
     pairs[place] = pair;
 }
 
+/// The pair at a place goes, and those behind it move up.
+fn take_out(pairs: &mut ArrayVec<Pair, OPEN_LIMIT>, place: usize)
+    requires { place < array_vec_len pairs.old }
+    ensures { pairs.new.items ≡ at_place pairs.old.items place [] }
+{
+    pairs.as_mut_slice().copy_within(place + 1.., place);
+    pairs.pop();
+}
+
 /// The same, and it goes once nothing of it is open.
 fn put_while_open(pairs: &mut ArrayVec<Pair, OPEN_LIMIT>, place: usize, pair: Pair)
     requires { place < array_vec_len pairs.old }
     ensures { pairs.new.items ≡ at_place pairs.old.items place (while_open pair) }
 {
     if pair.rest == 0 {
-        pairs.remove(place);
+        take_out(pairs, place);
     } else {
         put(pairs, place, pair);
     }
@@ -119,10 +128,25 @@ impl Book {
     {
         Book {
             pairs: ArrayVec::new(),
-            cells: [Cell::NONE; CELLS],
-            summaries: [Summary::NONE; SUMMARIES],
+            cells: [Cell::default(); CELLS],
+            summaries: [Summary::default(); SUMMARIES],
             today: 0,
             last_id: 0,
+        }
+    }
+
+    /// Another book with the same pairs and figures. `clone` may fail, as it does for a type that has a heap.
+    pub fn copied(&self) -> Book
+        ensures { result ≡ self.now }
+    {
+        let mut pairs = ArrayVec::new();
+        let _ = pairs.try_extend_from_slice(&self.pairs);
+        Book {
+            pairs,
+            cells: self.cells,
+            summaries: self.summaries,
+            today: self.today,
+            last_id: self.last_id,
         }
     }
 
@@ -284,7 +308,7 @@ impl Book {
         ensures book { self.new ≡ book_after (Call.Cancel id) self.old }
     {
         let (place, _) = find(&self.pairs, id)?;
-        self.pairs.remove(place);
+        take_out(&mut self.pairs, place);
         Ok(())
     }
 

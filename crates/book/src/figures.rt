@@ -1,9 +1,9 @@
 //! The figures of a day: by category, and by participant.
-ghost use Rattle.std.specs.Prelude.{◌≡◌, ◌≤◌, ◌-◌, min};
-ghost use Rattle.book.specs.Limits.{largest_code, summary_count};
-ghost use Rattle.book.specs.Figures.{add_figure, add_cell, settled, fail, add_summary, summary_of, place, post, post_summary, gains_at};
+ghost use Rattle.std.specs.Prelude.{◌≡◌, ◌≤◌};
+ghost use Rattle.book.specs.Limits.{largest_code};
+ghost use Rattle.book.specs.Figures.{in_measure, add_figure, add_cell, settled_part, fail, add_summary, summary_of, place, post, post_summary, gains_at};
 
-use crate::limits::{CATEGORIES, LARGEST_CODE, SUMMARIES};
+use crate::limits::{CATEGORIES, LARGEST_CODE};
 use crate::sides::Sides;
 
 /// So many SIs, and their value in euro cents.
@@ -11,6 +11,15 @@ use crate::sides::Sides;
 pub struct Figure {
     pub number: u64,
     pub value: u64,
+}
+
+/// What is added up or compared of figures.
+#[derive(Clone, Copy, Debug, PartialEq, Eq)]
+pub enum Measure {
+    /// So many SIs.
+    Number,
+    /// Euro cents.
+    Value,
 }
 
 /// The figures of a day and category.
@@ -41,10 +50,15 @@ pub struct Posting {
 }
 
 impl Figure {
-    pub const NOTHING: Figure = Figure {
-        number: 0,
-        value: 0,
-    };
+    /// In a measure.
+    pub fn in_measure(self, measure: Measure) -> u64
+        ensures { result ≡ in_measure measure self }
+    {
+        match measure {
+            Measure::Number => self.number,
+            Measure::Value => self.value,
+        }
+    }
 
     /// The sum of two figures, as it is stored. Cells and summaries have one too, field by field: no derive writes a sum.
     pub fn saturating_add(self, other: Figure) -> Figure
@@ -58,14 +72,6 @@ impl Figure {
 }
 
 impl Cell {
-    /// Nothing is counted.
-    pub const NONE: Cell = Cell {
-        settled: Figure::NOTHING,
-        securities: Figure::NOTHING,
-        cash: Figure::NOTHING,
-        isd_value: 0,
-    };
-
     /// The sum of two cells, figure by figure.
     pub fn saturating_add(self, other: Cell) -> Cell
         ensures { result ≡ add_cell self other }
@@ -79,17 +85,16 @@ impl Cell {
     }
 
     /// A settled part.
-    pub(crate) fn settled(part: u64, first: bool) -> Cell
-        ensures { result ≡ settled part first }
+    pub(crate) fn settled_part(part: u64, first: bool) -> Cell
+        ensures { result ≡ settled_part part first }
     {
+        let settled = Figure {
+            number: if first { 2 } else { 0 },
+            value: part.saturating_mul(2),
+        };
         Cell {
-            settled: Figure {
-                number: if first { 2 } else { 0 },
-                value: part.saturating_mul(2),
-            },
-            securities: Figure::NOTHING,
-            cash: Figure::NOTHING,
-            isd_value: 0,
+            settled,
+            ..Cell::default()
         }
     }
 
@@ -104,12 +109,12 @@ impl Cell {
             value: both,
         };
         let (securities, cash) = match sides {
-            Sides::Securities => (two, Figure::NOTHING),
-            Sides::Cash => (Figure::NOTHING, two),
+            Sides::Securities => (two, Figure::default()),
+            Sides::Cash => (Figure::default(), two),
             Sides::OneEach => (one, one),
         };
         Cell {
-            settled: Figure::NOTHING,
+            settled: Figure::default(),
             securities,
             cash,
             isd_value: if on_isd { both } else { 0 },
@@ -118,12 +123,6 @@ impl Cell {
 }
 
 impl Summary {
-    /// Nothing is counted.
-    pub const NONE: Summary = Summary {
-        total: Figure::NOTHING,
-        fails: Figure::NOTHING,
-    };
-
     /// The sum of two summaries.
     pub fn saturating_add(self, other: Summary) -> Summary
         ensures { result ≡ add_summary self other }
@@ -152,16 +151,6 @@ pub(crate) fn place(to_a_day: u64, day: u8, n: u8) -> usize
     ensures { result ≡ place to_a_day day n }
 {
     usize::from(day) * to_a_day as usize + usize::from(n.saturating_sub(1))
-}
-
-/// Where the summary of a day and participant lies, forty to a day: the last place for any that is past it.
-pub fn summary_place(day: u64, code: u64) -> usize
-    ensures { result ≡ min (place largest_code day code) (summary_count - 1) }
-{
-    let place = day
-        .saturating_mul(LARGEST_CODE)
-        .saturating_add(code.saturating_sub(1));
-    place.min(SUMMARIES as u64 - 1) as usize
 }
 
 /// The cell of the day and category gains the figures.

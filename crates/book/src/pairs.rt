@@ -1,7 +1,7 @@
 //! A matched pair of settlement instructions: docs/RULES.md, 'The pair'.
-ghost use Rattle.std.specs.Prelude.{◌≡◌, ◌<◌, ◌≤◌, true};
+ghost use Rattle.std.specs.Prelude.{◌≡◌, ◌<◌, ◌≤◌};
 ghost use Rattle.book.specs.Limits.{day_limit};
-ghost use Rattle.book.specs.Pairs.{is_within, in_range, if_in_range, switch_of, entered, with_hold, with_lack, with_part};
+ghost use Rattle.book.specs.Pairs.{NumbersMatch, in_range, if_in_range, switch_of, entered, with_hold, with_lack, with_part};
 ghost use Rattle.book.specs.Answers.{settle_answer};
 ghost use Rattle.book.specs.Postings.{posting, is_failing, fail_today, part_posting, late_fail};
 
@@ -13,7 +13,7 @@ use crate::sides::Sides;
 /// What the pair exchanges: 1 DVP/RVP, 2 DWP/RWP, 3 DFP/RFP, 4 DPFOD/CPFOD.
 #[derive(Clone, Copy, Debug, Default, PartialEq, Eq)]
 pub enum Kind {
-    /// The default of an unused place, as in the other enums.
+    /// `ArrayVec` asks what it holds for a default, so `Pair` and the enums in it have one.
     #[default]
     AgainstPayment,
     WithPayment,
@@ -132,28 +132,10 @@ impl TryFrom<u64> for Lack {
     }
 }
 
-/// From the lowest to the highest, both included.
-pub fn is_within(low: u64, high: u64, n: u64) -> bool
-    ensures { result ≡ is_within low high n }
-{
-    low <= n && n <= high
-}
-
-impl Entry {
-    /// Whether each value is in its range.
-    pub fn is_in_range(&self) -> bool
-        ensures { result ≡ in_range self.now }
-    {
-        is_within(1, LARGEST_ID, self.id)
-            && is_within(1, 4, self.kind)
-            && is_within(1, CATEGORIES, self.category)
-            && self.isd < DAYS
-            && is_within(1, 2, self.side)
-            && is_within(1, LARGEST_AMOUNT, self.amount)
-            && is_within(1, LARGEST_CODE, self.deliverer)
-            && is_within(1, LARGEST_CODE, self.receiver)
-    }
-}
+/// Kinds, sides and lacks have the numbers of the rules.
+pub fn numbers_match()
+    ensures { NumbersMatch }
+{}
 
 /// A hold's on/off: 1 on, 0 off.
 pub(crate) fn switch_of(on: u64) -> Result<bool, Refusal>
@@ -167,21 +149,44 @@ pub(crate) fn switch_of(on: u64) -> Result<bool, Refusal>
 }
 
 impl Entry {
+    /// Whether each number but those of kind and side is in its range.
+    fn numbers_fit(&self) -> bool
+        ensures { result ≡ in_range (record self.now { kind = 1; side = 1 }) }
+    {
+        (1..=LARGEST_ID).contains(&self.id)
+            && (1..=CATEGORIES).contains(&self.category)
+            && (0..DAYS).contains(&self.isd)
+            && (1..=LARGEST_AMOUNT).contains(&self.amount)
+            && (1..=LARGEST_CODE).contains(&self.deliverer)
+            && (1..=LARGEST_CODE).contains(&self.receiver)
+    }
+
+    /// Whether each value is in its range.
+    #[tactic(auto, using(crate::proofs::Ranges::in_range_lem))]
+    pub fn is_in_range(&self) -> bool
+        ensures { result ≡ in_range self.now }
+    {
+        Kind::try_from(self.kind).is_ok() && Side::try_from(self.side).is_ok() && self.numbers_fit()
+    }
+
     /// The pair as it is entered, or number 2.
+    #[tactic(auto, using(crate::proofs::Ranges::in_range_lem))]
     pub(crate) fn pair(&self) -> Result<Pair, Refusal>
         ensures { result ≡ if_in_range (in_range self.now) (entered self.now) }
     {
-        if !self.is_in_range() {
+        let kind = Kind::try_from(self.kind)?;
+        let side = Side::try_from(self.side)?;
+        if !self.numbers_fit() {
             return Err(Refusal::OutOfRange);
         }
         Ok(Pair {
             amount: self.amount,
             rest: self.amount,
             id: self.id as u16,
-            kind: Kind::try_from(self.kind)?,
+            kind,
             category: self.category as u8,
             isd: self.isd as u8,
-            side: Side::try_from(self.side)?,
+            side,
             deliverer: self.deliverer as u8,
             receiver: self.receiver as u8,
             holds: Holds::default(),
@@ -269,7 +274,7 @@ impl Pair {
             Some(day) => u64::from(day) != today,
             None => true,
         };
-        self.posting(today, Cell::settled(part, first))
+        self.posting(today, Cell::settled_part(part, first))
     }
 
     /// Its fail at the close of today.

@@ -1,14 +1,14 @@
-//! A row: the figures of a closed day and a category. docs/RULES.md, 'A row'.
+//! A row: the figures of a closed day and a category; and a summary: those of a participant. docs/RULES.md, 'A row'.
 ghost use Rattle.std.specs.Prelude.{◌≡◌, ◌<◌, ◌≤◌};
 ghost use Rattle.std.specs.List.{fold};
 ghost use Rattle.book.specs.Limits.{day_limit, category_count};
 ghost use Rattle.book.specs.Figures.{add_cell, none};
-ghost use Rattle.book.specs.Rows.{row_of, figures_of, is_closed, row_answer};
+ghost use Rattle.book.specs.Rows.{row_of, figures_of, is_closed, row_answer, summary_answer};
 
 use crate::book::Book;
 use crate::calls::Refusal;
-use crate::figures::{Cell, Figure, place};
-use crate::limits::{CATEGORIES, CELLS, DAYS};
+use crate::figures::{Cell, Figure, Summary, place};
+use crate::limits::{CATEGORIES, CELLS, DAYS, LARGEST_CODE};
 
 /// The figures of a day and a category, or sums of them. `total` is settled and fails together.
 #[derive(Clone, Copy, Debug, Default, PartialEq, Eq)]
@@ -43,7 +43,7 @@ fn sum(cells: &[Cell]) -> Cell
 {
     cells
         .iter()
-        .fold(Cell::NONE, |sum, cell| sum.saturating_add(*cell))
+        .fold(Cell::default(), |sum, cell| sum.saturating_add(*cell))
 }
 
 /// The figures of a day, of all nine categories where the category is 0.
@@ -79,5 +79,18 @@ impl Book {
             return Err(Refusal::NotClosed);
         }
         Ok(Row::of(figures_of(&self.cells, day as u8, category as u8)))
+    }
+
+    /// The summary of a closed day and a participant. Number 2: a code outside 1 to 40; 9: a day that isn't closed.
+    pub fn summary(&self, day: u64, code: u64) -> Result<Summary, Refusal>
+        ensures { result ≡ summary_answer day code self.now }
+    {
+        if !(1..=LARGEST_CODE).contains(&code) {
+            return Err(Refusal::OutOfRange);
+        }
+        if !self.is_closed(day) {
+            return Err(Refusal::NotClosed);
+        }
+        Ok(self.summaries[place(LARGEST_CODE, day as u8, code as u8)])
     }
 }

@@ -1,6 +1,7 @@
 //! To which side the two SIs of a failing pair go: docs/RULES.md, 'The side of a fail'.
 ghost use Rattle.std.specs.Prelude.{◌≡◌};
 ghost use Rattle.book.specs.Sides.{sides_at_close, sides_when_late};
+ghost use Rattle.book.specs.SidesTable.{SidesAreTheTable};
 
 use crate::pairs::{Holds, Kind, Lack, Side};
 
@@ -41,3 +42,8 @@ impl Sides {
         }
     }
 }
+
+/// The sides of a fail, in every case, are those of the table written out by hand.
+pub fn sides_as_in_the_table()
+    ensures { SidesAreTheTable }
+{}

@@ -1,6 +1,6 @@
 //! The days that a program is asked for by its arguments.
 
-use monitor::days::{Days, day_of};
+use monitor::days::{Days, parse_day};
 use std::env::FillError;
 use std::rt::Env;
 
@@ -24,5 +24,5 @@ fn has_argument<R: Env>(rt: &R, i: usize) -> bool {
 fn day_at<R: Env>(rt: &R, i: usize) -> Option<u64> {
     let mut digits = [0u8; 32];
     let count = rt.arg(i, &mut digits).ok()?;
-    day_of(&digits[..count])
+    parse_day(&digits[..count])
 }

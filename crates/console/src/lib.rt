@@ -4,11 +4,11 @@
 pub mod arguments;
 pub mod problem;
 pub mod streams;
-pub mod texts;
+pub mod text;
 
 use crate::problem::Problem;
 use crate::streams::write_text;
-use crate::texts::Text;
+use crate::text::Text;
 use std::io;
 
 /// Writes a text of the call file on standard input to standard output, or says on standard error why there is none.

@@ -6,7 +6,7 @@ ghost use Rattle.std.specs.Io.KnownBytes.{Consumes, IsAtEnd, Keeps};
 ghost use Rattle.console.specs.Texts.{WritesText};
 
 use crate::problem::Problem;
-use crate::texts::{Text, write_text_of};
+use crate::text::{Text, write_text_of};
 use monitor::replay::FILE_ROOM;
 use std::io;
 use std::io::{Read, Write};

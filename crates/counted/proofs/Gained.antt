@@ -1,16 +1,8 @@
 -- What the postings of the book add to a figure, in plain numbers.
-use Rattle.std.proofs.Common.{◌≡◌, ℕ, zero, suc, ◌+◌, ◌^◌, ◌<◌, ◌≤◌, Bool, ◌&&◌, List, [], ◌∷◌, map, filter, refl, arith}
-use Rattle.std.specs.Prelude.{if◌then◌else◌, ◌==◌, nat_le, nat_lt}
-use Rattle.std.specs.List.{AllByRecursion, range_with_len}
-use Rattle.std.proofs.lemmas.Bool.Decides.{nat_tests}
-use Rattle.book.specs.declared.figures.Cell.{Cell}
-use Rattle.book.specs.declared.sides.Sides.{Sides}
-use Rattle.book.specs.declared.figures.Posting.{Posting}
-use Rattle.book.specs.declared.pairs.Pair.{Pair}
+use Rattle.history.proofs.Words.{◌≡◌, ℕ, zero, suc, ◌+◌, ◌^◌, ◌<◌, ◌≤◌, Bool, ◌&&◌, List, [], ◌∷◌, map, filter}
+use Rattle.history.proofs.Words.{refl, arith, if◌then◌else◌, ◌==◌, nat_le, nat_lt, AllByRecursion, range_with_len, nat_tests, Cell, Sides}
+use Rattle.history.proofs.Words.{Posting, Pair, largest_amount, posting, late_fail, sides_when_late, in_measure, sum_of}
 use Rattle.book.specs.Figures as f
-use Rattle.book.specs.Postings.{posting, late_fail}
-use Rattle.book.specs.Sides.{sides_when_late}
-use Rattle.history.specs.Sums.{sum_of, in_measure}
 use Rattle.counted.specs.PairCalls.{Column, settled, securities, cash, fails, total, isd_value, in_part, in_fail}
 
 -- that figure of a cell, in plain numbers
@@ -45,23 +37,27 @@ weight_none k = grind arith
 pub weight_sum : (k : Column) (a b : Cell) → weight k a + weight k b < 2 ^ 64 → weight k (f.add_cell a b) ≡ weight k a + weight k b
 weight_sum k a b l = grind arith
 
-pub part_weight : (k : Column) (part : ℕ) (first : Bool) → part ≤ 10000000000 → weight k (f.settled part first) ≡ in_part k part first
+pub part_weight : (k : Column) (part : ℕ) (first : Bool) → part ≤ largest_amount
+    → weight k (f.settled_part part first) ≡ in_part k part first
 part_weight k part first l = grind arith
 
-pub fail_weight : (k : Column) (s : Sides) (v : ℕ) (on_isd : Bool) → v ≤ 10000000000 → weight k (f.fail s v on_isd) ≡ in_fail k s v on_isd
+pub fail_weight : (k : Column) (s : Sides) (v : ℕ) (on_isd : Bool) → v ≤ largest_amount
+    → weight k (f.fail s v on_isd) ≡ in_fail k s v on_isd
 fail_weight k s v on_isd l = grind arith
 
 -- ---- what open pairs post on one day: each that passes a test, its own figures
 
-pub gained_today : (k : Column) (sel : Selection) (d t : ℕ) (test : Pair → Bool) (figures : Pair → Cell) (gives : Pair → ℕ) (P : Pair → Type 0)
-    → ((p : Pair) → P p → weight k (figures p) ≡ gives p) → (ps : List Pair) → AllByRecursion P ps
-    → gained k sel d (map (λ p. posting t p (figures p)) (filter test ps)) ≡ sum_of (λ p. if picks sel p then (if d == t && test p then gives p else 0) else 0) ps
-gained_today k sel d t test figures gives P same [] a = refl
-gained_today k sel d t test figures gives P same (p ∷ ps) a = grind (arith, nat_tests, same p a.0, gained_today k sel d t test figures gives P same ps a.1)
+module _ (k : Column) (sel : Selection) (d t : ℕ) (test : Pair → Bool) (figures : Pair → Cell) (gives : Pair → ℕ) (P : Pair → Type 0)
+    (same : (p : Pair) → P p → weight k (figures p) ≡ gives p) where
+  pub gained_today : (ps : List Pair) → AllByRecursion P ps
+      → gained k sel d (map (λ p. posting t p (figures p)) (filter test ps))
+      ≡ sum_of (λ p. if picks sel p then (if d == t && test p then gives p else 0) else 0) ps
+  gained_today [] a = refl
+  gained_today (p ∷ ps) a = grind (arith, nat_tests, same p a.0, gained_today ps a.1)
 
 -- ---- late fails: n days from a on
 
-pub gained_when_late : (k : Column) (sel : Selection) (d a n : ℕ) (p : Pair) → p.amount ≤ 10000000000
+pub gained_when_late : (k : Column) (sel : Selection) (d a n : ℕ) (p : Pair) → p.amount ≤ largest_amount
     → gained k sel d (map (late_fail p) (range_with_len a n))
     ≡ (if picks sel p then (if nat_le a d && nat_lt d (a + n) then in_fail k (sides_when_late p.kind p.side) p.amount (d == p.isd) else 0) else 0)
 gained_when_late k sel d a zero p l = grind (arith, nat_tests)

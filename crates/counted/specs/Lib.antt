@@ -1,2 +1,3 @@
 pub mod PairCalls
 pub mod Counted
+pub mod PlainSums

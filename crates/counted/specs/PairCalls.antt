@@ -13,7 +13,9 @@ use Rattle.book.specs.Answers.{has_id}
 use Rattle.book.specs.Postings.{is_failing, is_first_part}
 use Rattle.book.specs.Book.{changed}
 use Rattle.history.specs.History.{day_of}
-use Rattle.history.specs.Sums.{Measure, number, value, of_two, sum_of, over_pairs}
+use Rattle.book.specs.declared.figures.Measure.{Measure}
+use Rattle.book.specs.declared.figures.Measure.TheVariants.{Number, Value}
+use Rattle.history.specs.Sums.{of_two, sum_of, over_pairs}
 
 -- a figure of a day: settled, securities fails, cash fails, both fails, total, each in number and value; and ISD value
 pub data Column : Type 0 where
@@ -24,8 +26,8 @@ pub data Column : Type 0 where
 
 -- twice the part as settled value, and 2 SIs settled if it is the pair's first part that day
 abbrev pub of_part : Measure → ℕ → Bool → ℕ
-of_part number part first = if first then 2 else 0
-of_part value part first = 2 * part
+of_part Number part first = if first then 2 else 0
+of_part Value part first = 2 * part
 
 -- what a part adds to each figure
 abbrev pub in_part : Column → ℕ → Bool → ℕ
@@ -35,8 +37,8 @@ in_part _ part first = 0
 
 -- one SI worth v cents
 abbrev pub of_one : Measure → ℕ → ℕ
-of_one number v = 1
-of_one value v = v
+of_one Number v = 1
+of_one Value v = v
 
 -- the SIs of a fail that go to securities: both, none, or one
 abbrev pub in_securities : Measure → Sides → ℕ → ℕ

@@ -1,3 +1,1 @@
-pub mod Plain
-pub mod Follow
 pub mod ByPairs

@@ -1,3 +1,1 @@
-pub mod PlainSums
 pub mod Journal
-pub mod Follow

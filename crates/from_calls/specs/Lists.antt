@@ -7,11 +7,11 @@ use Rattle.book.specs.declared.calls.Call.{Call}
 use Rattle.book.specs.declared.calls.Refusal.TheVariants.{NotClosed}
 use Rattle.history.specs.History.{book_of, history_of, closed}
 use Rattle.counted.specs.PairCalls.{fails, total}
-use Rattle.counted.specs.Counted.{names}
+use Rattle.counted.specs.Counted.{names_participant}
 use Rattle.ranking.specs.declared.participant.Participant.{Participant}
-use Rattle.ranking.specs.declared.runs.Measure.{Measure}
+use Rattle.book.specs.declared.figures.Measure.{Measure}
 use Rattle.ranking.specs.Ranking.{highest}
-use Rattle.ranking.specs.Runs.{measure_of, list_answer}
+use Rattle.ranking.specs.Runs.{list_answer}
 use Rattle.ranking.specs.Meaning.{HasDistinctCodes, IsListOf}
 use Rattle.from_calls.specs.Sums.{counted_over, is_closed_run}
 
@@ -19,8 +19,8 @@ use Rattle.from_calls.specs.Sums.{counted_over, is_closed_run}
 abbrev pub counted_participant : ℕ → ℕ → Measure → List Call → ℕ → Participant
 counted_participant first last m h code = record {
   code = code;
-  fails = counted_over (fails (measure_of m)) (names code) first last h;
-  total = counted_over (total (measure_of m)) (names code) first last h;
+  fails = counted_over (fails m) (names_participant code) first last h;
+  total = counted_over (total m) (names_participant code) first last h;
 }
 
 -- those with codes 1 to 40

@@ -5,7 +5,10 @@ use Rattle.book.specs.Limits.{category_count}
 use Rattle.book.specs.declared.calls.Call.{Call}
 use Rattle.book.specs.declared.calls.Refusal.TheVariants.{NotClosed}
 use Rattle.history.specs.History.{book_of, history_of}
-use Rattle.history.specs.Sums.{Measure, number, value, in_measure, in_both, counts}
+use Rattle.book.specs.declared.figures.Measure.{Measure}
+use Rattle.book.specs.declared.figures.Measure.TheVariants.{Number, Value}
+use Rattle.book.specs.Figures.{in_measure}
+use Rattle.history.specs.Sums.{in_both, counts}
 use Rattle.counted.specs.PairCalls.{Column, settled, securities, cash, fails, total, isd_value}
 use Rattle.counted.specs.Counted.{column}
 use Rattle.reports.specs.declared.report.Report.{Report}
@@ -24,9 +27,9 @@ counted_report first last category h =
         cash = in_both (λ m. over (cash m));
         isd_value = over isd_value;
       };
-      rate_by_number = rate (over (fails number)) (over (total number));
-      rate_by_value = rate (over (fails value)) (over (total value));
-      duration = duration (over (fails value)) (over isd_value);
+      rate_by_number = rate (over (fails Number)) (over (total Number));
+      rate_by_value = rate (over (fails Value)) (over (total Value));
+      duration = duration (over (fails Value)) (over isd_value);
     }
 
 -- Which report is given, and each of its numbers.

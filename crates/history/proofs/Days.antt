@@ -1,9 +1,5 @@
 -- The closed days are those before the day of the next call.
-use Rattle.std.proofs.Common.{◌≡◌, ℕ, suc, ◌<◌, true, List, [], ◌∷◌, arith}
-use Rattle.std.specs.Prelude.{nat_lt}
-use Rattle.std.proofs.lemmas.Bool.Decides.{nat_tests}
-use Rattle.book.specs.declared.calls.Call.{Call}
-use Rattle.history.specs.History.{closed, day_of}
+use Rattle.history.proofs.Words.{◌≡◌, ℕ, suc, ◌<◌, true, List, [], ◌∷◌, arith, nat_lt, nat_tests, Call, closed, day_of}
 
 pub closed-is : (d : ℕ) (h : List Call) → closed d h ≡ nat_lt d (day_of h)
 closed-is d [] = grind (arith, nat_tests)

@@ -1,22 +1,11 @@
--- Ids: each open pair has one entry, and no two open pairs share one.
-use Rattle.std.proofs.Common.{◌≡◌, ◌≢◌, ◌⊎◌, ℕ, ◌+◌, ◌<◌, ◌≤◌, true, false, List, [], ◌∷◌, ◌++◌, length, length-append, filter, None, Some, refl, arith}
-use Rattle.std.specs.Prelude.{if◌then◌else◌, ◌==◌}
-use Rattle.std.specs.List.{AllByRecursion}
+-- Ids: no two open pairs share one.
+use Rattle.history.proofs.Words.{◌≡◌, ◌≢◌, ℕ, ◌+◌, ◌<◌, ◌≤◌, true, false, List, [], ◌∷◌, ◌++◌, length, filter}
+use Rattle.history.proofs.Words.{None, Some, refl, arith, if◌then◌else◌, ◌==◌, AllByRecursion, option_to_list, filter-append}
+use Rattle.history.proofs.Words.{nat_tests, Call, Pair, has_id, pair_of, changed, length-append, cancelled_before}
 use Rattle.std.proofs.lemmas.List.{nil_from_length}
-use Rattle.std.proofs.lemmas.List.Elements.{filter-append}
-use Rattle.std.proofs.lemmas.Bool.{cond_both}
-use Rattle.std.proofs.lemmas.Bool.Decides.{nat_tests}
-use Rattle.book.specs.declared.calls.Call.{Call}
-use Rattle.book.specs.declared.pairs.Entry.{Entry}
-use Rattle.book.specs.declared.pairs.Pair.{Pair}
-use Rattle.book.specs.Answers.{has_id, pair_of}
-use Rattle.book.specs.Book.{changed}
-use Rattle.history.specs.History.{cancels, cancelled_before}
+use Rattle.history.specs.History.{cancels}
 
 -- ---- numbers
-
-pub le_self : (n : ℕ) → n ≤ n
-le_self n = omega arith
 
 pub plus_left : (n : ℕ) → 0 + n ≡ n
 plus_left n = omega arith
@@ -26,25 +15,6 @@ eq-own id i same = grind (arith, nat_tests)
 
 pub eq-other : (id i : ℕ) → i ≢ id → (id == i) ≡ false
 eq-other id i other = grind (arith, nat_tests)
-
--- an id above the last is none that was accepted
-pub is_new : (i j last : ℕ) → i ≤ last → last < j → i ≢ j
-is_new i j last low above same = omega arith
-
--- ---- the entry of a pair
-
-pub record IsEntry (i c d a from to : ℕ) (e : Entry) : Type 0 where
-  pub id : e.id ≡ i
-  pub category : e.category ≡ c
-  pub isd : e.isd ≡ d
-  pub amount : e.amount ≡ a
-  pub deliverer : e.deliverer ≡ from
-  pub receiver : e.receiver ≡ to
-
--- just one of them has that id, and it has that category, ISD and amount, and those participants
-abbrev pub HasEntry : ℕ → ℕ → ℕ → ℕ → ℕ → ℕ → List Entry → Type 0
-HasEntry i c d a from to [] = ⊥
-HasEntry i c d a from to (e ∷ es) = (IsEntry i c d a from to e × AllByRecursion (λ f. f.id ≢ i) es) ⊎ ((e.id ≢ i) × HasEntry i c d a from to es)
 
 -- ---- cancels
 
@@ -66,25 +36,19 @@ id-pair_of id [] p h = absurd (cc)
 id-pair_of id (q ∷ ps) p h = grind (arith, nat_tests, id-pair_of id ps p)
 
 -- no pair has an id above the last
-pub none_above : (last i : ℕ) (ps : List Pair) → AllByRecursion (λ p. p.id ≤ last) ps → last < i → filter (has_id i) ps ≡ []
-none_above last i [] a l = refl
-none_above last i (p ∷ ps) a l = grind (arith, nat_tests, a.0, none_above last i ps a.1 l)
-
 pub none_found : (last i : ℕ) (ps : List Pair) → AllByRecursion (λ p. p.id ≤ last) ps → last < i → pair_of i ps ≡ None
 none_found last i [] a l = refl
 none_found last i (p ∷ ps) a l = grind (arith, nat_tests, a.0, none_found last i ps a.1 l)
 
--- where an id has no pair, and where it has one
-pub filter_none : (id : ℕ) (ps : List Pair) → pair_of id ps ≡ None → filter (has_id id) ps ≡ []
-filter_none id [] f = refl
-filter_none id (q ∷ ps) f = grind (arith, filter_none id ps)
-
-pub filter-has_id : (id : ℕ) (ps : List Pair) (p : Pair) → pair_of id ps ≡ Some p → AreApart ps → filter (has_id id) ps ≡ p ∷ []
-filter-has_id id ps p f a = alone ps f (a id)
+-- the pairs of an id are the one that is found, or none
+pub filter-has_id : (id : ℕ) (ps : List Pair) → AreApart ps → filter (has_id id) ps ≡ option_to_list (pair_of id ps)
+filter-has_id id ps a = alone ps (a id)
   where
-    alone : (ps : List Pair) → pair_of id ps ≡ Some p → length (filter (has_id id) ps) ≤ 1 → filter (has_id id) ps ≡ p ∷ []
-    alone [] f l = absurd (cc)
-    alone (q ∷ ps) f l = grind (arith, nat_tests, nil_from_length (filter (has_id id) ps), alone ps)
+    alone : (ps : List Pair) → length (filter (has_id id) ps) ≤ 1 → filter (has_id id) ps ≡ option_to_list (pair_of id ps)
+    alone [] l = refl
+    alone (q ∷ ps) l = grind (arith, nat_tests, nil_from_length (filter (has_id id) ps), alone ps)
+
+-- ---- what holds of each
 
 pub all-map : {X : Type 0} (P Q : X → Type 0) (xs : List X) → ((x : X) → P x → Q x) → AllByRecursion P xs → AllByRecursion Q xs
 all-map P Q [] f a = tt
@@ -100,15 +64,15 @@ all-append P [] ys a b = b
 all-append P (x ∷ xs) ys a b = (a.0, all-append P xs ys a.1 b)
 
 -- what holds of the pair that changes, and of each other
-pub all_changed : (P Q : Pair → Type 0) (id : ℕ) (f : Pair → List Pair) (ps : List Pair) → AllByRecursion P ps → length (filter (has_id id) ps) ≤ 1
+pub all_changed : (P Q : Pair → Type 0) (id : ℕ) (f : Pair → List Pair) (ps : List Pair) → AllByRecursion P ps
+    → length (filter (has_id id) ps) ≤ 1
     → ((q : Pair) → q.id ≢ id → P q → Q q)
     → ((p : Pair) → pair_of id ps ≡ Some p → P p → AllByRecursion Q (f p))
     → AllByRecursion Q (changed id f ps)
 all_changed P Q id f [] a one other own = tt
 all_changed P Q id f (q ∷ ps) a one other own =
-    cond_both (q.id == id) (f q ++ ps) (q ∷ changed id f ps) (AllByRecursion Q)
-    (λ e. all-append Q (f q) ps (own q (rw e refl) a.0) (others ps a.1 (grind (arith, nat_tests))))
-    (λ e. (other q (grind (arith, nat_tests)) a.0, all_changed P Q id f ps a.1 (grind (arith, nat_tests)) other (λ p g. own p (rw e g))))
+    let later = all_changed P Q id f ps a.1 in
+    grind (arith, nat_tests, a.0, other q, own, all-append Q (f q) ps, others ps a.1, later)
   where
     others : (ps : List Pair) → AllByRecursion P ps → length (filter (has_id id) ps) ≤ 0 → AllByRecursion Q ps
     others [] a l = tt
@@ -121,8 +85,12 @@ apart_changed id f ps under apart i = omega (arith, fewer ps, apart i)
   where
     fewer : (ps : List Pair) → length (filter (has_id i) (changed id f ps)) ≤ length (filter (has_id i) ps)
     fewer [] = omega arith
-    fewer (p ∷ ps) = grind (arith, under i p, fewer ps, filter-append (has_id i) (f p) ps, length-append (filter (has_id i) (f p)) (filter (has_id i) ps))
+    fewer (p ∷ ps) = grind (arith, under i p, fewer ps, filter-append (has_id i) (f p) ps, length-append {A = Pair})
 
 -- one more pair, under a new id
-pub apart_push : (last : ℕ) (ps : List Pair) (p : Pair) → AllByRecursion (λ q. q.id ≤ last) ps → last < p.id → AreApart ps → AreApart (ps ++ p ∷ [])
-apart_push last ps p a l apart i = grind (arith, nat_tests, apart i, none_above last i ps a, filter-append (has_id i) ps (p ∷ []), length-append (filter (has_id i) ps))
+pub apart_push : (last : ℕ) (ps : List Pair) (p : Pair) → AllByRecursion (λ q. q.id ≤ last) ps → last < p.id → AreApart ps
+    → AreApart (ps ++ p ∷ [])
+apart_push last ps p a l apart i =
+    let none = none_found last i ps a in
+    let pairs = filter-has_id i ps apart in
+    simp (filter-append, length-append) (grind (arith, nat_tests, apart i))

@@ -1,7 +1,8 @@
+pub mod Words
 pub mod Days
 pub mod Pairs
 pub mod Accepted
 pub mod Ids
 pub mod Agrees
-pub mod Parts
 pub mod Kept
+pub mod Follow

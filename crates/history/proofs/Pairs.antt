@@ -1,10 +1,8 @@
--- Sums over the open pairs, what holds of the pair of an id, and the bounds of its values.
-use Rattle.std.proofs.Common.{inl, inr, ◌≡◌, ℕ, ◌+◌, ◌<◌, ◌≤◌, List, [], ◌∷◌, ◌++◌, Some, subst, arith}
-use Rattle.std.specs.List.{AllByRecursion}
-use Rattle.std.proofs.lemmas.Bool.{cases_Bool}
-use Rattle.book.specs.declared.pairs.Pair.{Pair}
-use Rattle.book.specs.Answers.{has_id, pair_of}
-use Rattle.history.specs.Sums.{sum_of}
+-- Sums over the open pairs, what holds of the pair of an id, and the pair as it was entered.
+use Rattle.history.proofs.Words.{◌≡◌, ◌≤◌, ◌∷◌, AllByRecursion, day_limit, category_count, largest_amount, largest_code, while_open}
+use Rattle.history.proofs.Words.{ℕ, false, List, [], None, Some, arith, Pair, Call, Enter, Hold, Lack, Cancel, sum_of}
+use Rattle.history.proofs.Words.{◌+◌, ◌<◌, ◌++◌, ◌==◌, Settle, side_of, lack_of, entered, with_hold, with_lack, with_part, pair_of}
+use Rattle.book.specs.declared.pairs.Lack.TheVariants as lack
 
 -- ---- sums over the pairs
 
@@ -16,25 +14,56 @@ sum_of-append f (x ∷ xs) ys = omega (arith, sum_of-append f xs ys)
 -- what holds of every pair holds of the pair of an id
 pub all_of_pair : (P : Pair → Type 0) (id : ℕ) (ps : List Pair) (p : Pair) → AllByRecursion P ps → pair_of id ps ≡ Some p → P p
 all_of_pair P id [] p a h = absurd (cc)
-all_of_pair P id (q ∷ ps) p a h =
-    elim (cases_Bool (has_id id q)) as (λ c. P p) [ inl e ↦ (let same : q ≡ p = grind arith in subst P same a.0) | inr e ↦ all_of_pair P id ps p a.1 (grind arith) ]
+all_of_pair P id (q ∷ ps) p a h = grind (arith, a.0, all_of_pair P id ps p a.1)
 
--- ---- the values of an open pair
+-- ---- the pair as it was entered
+
+-- but for its holds and its lack, which change no reading
+abbrev pub unheld : Pair → Pair
+unheld p = record p { holds = record { deliverer = false; receiver = false }; lack = lack.Nothing }
+
+-- All of its amount is open, and it has no hold, no lack and no part. So no call but its enter changes it, and a further field of
+-- a pair that no call changes is in it without a word.
+abbrev pub as_entered : Pair → Pair
+as_entered p = record (unheld p) { rest = p.amount; last_part = None }
+
+-- one pair more, where the call is an enter
+abbrev pub with_origin : Call → List Pair → List Pair
+with_origin (Enter e) ps = entered e ∷ ps
+with_origin _ ps = ps
+
+-- the pairs of a history as they were entered
+abbrev pub origins : List Call → List Pair
+origins [] = []
+origins (call ∷ h) = with_origin call (origins h)
 
 -- a participant's code
 pub record IsCode (n : ℕ) : Type 0 where
   pub low : 1 ≤ n
-  pub high : n ≤ 40
+  pub high : n ≤ largest_code
 
--- category, ISD, rest, amount, deliverer and receiver
-pub record AreSound (c d r a from to : ℕ) : Type 0 where
-  pub low : 1 ≤ c
-  pub high : c ≤ 9
-  pub isd : d < 64
-  pub rest : r ≤ 10000000000
-  pub amount : a ≤ 10000000000
-  pub deliverer : IsCode from
-  pub receiver : IsCode to
+-- its values are in their ranges
+pub record IsSound (p : Pair) : Type 0 where
+  pub low : 1 ≤ p.category
+  pub high : p.category ≤ category_count
+  pub isd : p.isd < day_limit
+  pub amount : p.amount ≤ largest_amount
+  pub deliverer : IsCode p.deliverer
+  pub receiver : IsCode p.receiver
 
-abbrev pub IsSound : Pair → Type 0
-IsSound p = AreSound p.category p.isd p.rest p.amount p.deliverer p.receiver
+-- ---- a call on an open pair
+
+-- its id
+abbrev pub on_id : Call → ℕ
+on_id (Hold id side on) = id
+on_id (Lack id lack) = id
+on_id (Settle id part) = id
+on_id (Cancel id) = id
+on_id _ = 0
+
+-- what becomes of the pair on day t
+abbrev pub becomes : Call → ℕ → Pair → List Pair
+becomes (Hold id side on) t p = with_hold (side_of side) (on == 1) p ∷ []
+becomes (Lack id lack) t p = with_lack (lack_of lack) p ∷ []
+becomes (Settle id part) t p = while_open (with_part t part p)
+becomes _ t p = []

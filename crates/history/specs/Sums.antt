@@ -3,25 +3,18 @@ use Rattle.std.specs.Prelude.{ℕ, ◌+◌, ◌*◌, Bool, ◌||◌, ◌==◌, L
 use Rattle.book.specs.declared.calls.Call.{Call}
 use Rattle.book.specs.declared.pairs.Entry.{Entry}
 use Rattle.book.specs.declared.figures.Figure.{Figure}
+use Rattle.book.specs.declared.figures.Measure.{Measure}
+use Rattle.book.specs.declared.figures.Measure.TheVariants.{Number, Value}
 use Rattle.history.specs.History.{entries}
-
--- in number of SIs, or in value in cents
-pub data Measure : Type 0 where
-  number value : Measure
-
--- a figure in that measure
-abbrev pub in_measure : Measure → Figure → ℕ
-in_measure number f = f.number
-in_measure value f = f.value
 
 -- a number and a value
 abbrev pub in_both : (Measure → ℕ) → Figure
-in_both n = record { number = n number; value = n value }
+in_both n = record { number = n Number; value = n Value }
 
 -- two SIs worth v cents each
 abbrev pub of_two : Measure → ℕ → ℕ
-of_two number v = 2
-of_two value v = 2 * v
+of_two Number v = 2
+of_two Value v = 2 * v
 
 -- the sum of f over a list
 abbrev pub sum_of : {X : Type 0} → (X → ℕ) → List X → ℕ

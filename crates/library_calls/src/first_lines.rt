@@ -1,11 +1,12 @@
 //! The first call line of a file, by the reader of lines.
 
-use lines::reader::{Line, first_call_line};
+use lines::reader::{Line, Lines};
+use lines::written::behind_names;
 use std::io;
 
 /// What the reader says of a file's first call line.
 fn say_first_line<R: Print>(rt: &R, file: &[u8]) -> io::Result<()> {
-    match first_call_line(file) {
+    match behind_names(file).and_then(|text| Lines::new(text).next()) {
         Some(Line::Correct(_)) => print!(rt; "correct")?,
         Some(Line::Wrong(place)) => print!(rt; "wrong at {place}")?,
         None => print!(rt; "no line")?,

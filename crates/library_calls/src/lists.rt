@@ -2,7 +2,8 @@
 
 use crate::books::{three_categories, worked_file};
 use book::book::Book;
-use ranking::runs::{Measure, highest_rates};
+use book::figures::Measure;
+use ranking::runs::highest_rates;
 use std::io;
 
 /// The word of a measure.

@@ -1,94 +1,101 @@
--- The lines of calls are read right: a number, and the fields that it picks.
-use Rattle.std.proofs.Common.{◌≡◌, ℕ, zero, suc, ◌^◌, ◌<◌, List, [], ◌∷◌, ◌++◌, length, map, refl, sym, ◌∙◌, ap, subst, append_assoc, arith, rules}
-use Rattle.std.specs.Prelude.{Ok, Err}
-use Rattle.std.specs.List.{AllByRecursion, join_with_byte}
-use Rattle.std.specs.Fmt.{decimal}
+-- The lines of calls are read right: a call is the numbers of its line, case by case, and its number picks the values.
+use Rattle.std.specs.Prelude.{◌≡◌, ℕ, ◌-◌, ◌^◌, ◌<◌, List, [], ◌∷◌, ◌++◌, length, get_or, drop, map, replicate, refl}
+use Rattle.std.specs.List.{AllByRecursion, range_with_len}
+use Rattle.std.proofs.Common.{decimal, slice_index_or, Some, sym, ◌∙◌, ap, subst, append_assoc, arith, length-append, rules}
+use Rattle.std.proofs.lemmas.List.FromFn.{fill_by_all}
+use Rattle.std.proofs.lemmas.Bool.Decides.{nat_tests}
 use Rattle.std.proofs.lemmas.List.Elements.{length_all_zip}
 use Rattle.book.specs.declared.calls.Call.{Call}
-use Rattle.book.specs.declared.calls.Call.TheVariants.{Enter, Hold, Lack, Settle, Cancel, Close}
-use Rattle.lines.specs.Parts.{Answer, call_of, call_read, end_of, highest_of}
-use Rattle.lines.specs.Grammar.{HasShortFields, fields_of, line_of}
-use Rattle.lines.proofs.Readers.{IsWordOf, IsRightAnswer, Stops, Reads, both_reads}
-use Rattle.lines.proofs.Numerals.{IsWithin, field_word, field_reads}
-use Rattle.lines.proofs.Fields.{AreUpTo, ended, end_same, up_to_themselves, columns_reads}
+use Rattle.book.specs.declared.calls.Call.TheVariants.{Close}
+use Rattle.texts.specs.Lines.{line_text}
+use Rattle.lines.specs.Table.{column_count, call_count, numbers_of, call_made, highest_of, IsNumber, MakesItself, CallsAreNumbers}
+use Rattle.lines.specs.Grammar.{HasShortFields, line_of}
+use Rattle.lines.specs.Parts.{Parsed, call_read, end_of}
+use Rattle.lines.proofs.Readers.{IsRightAnswer, Reads, both_reads}
+use Rattle.lines.proofs.Fields.{field_word, field_reads, AreUpTo, ended, end_same, up_to_themselves, values_reads}
 
--- numbers joined by commas, and LF
-join_ended : (v : ℕ) (vs : List ℕ) → join_with_byte 44 (map decimal (v ∷ vs)) ++ 10 ∷ [] ≡ ended (v ∷ vs)
-join_ended v [] = refl
-join_ended v (w ∷ vs) = append_assoc (decimal v) (44 ∷ join_with_byte 44 (map decimal (w ∷ vs))) (10 ∷ []) ∙ ap (λ l. decimal v ++ 44 ∷ l) (join_ended w vs)
+-- ---- the table: a clause with a name covers the calls that have no clause of their own
+
+same_call : (call : Call) → (length (numbers_of call) ≡ column_count)
+    × (call_made (slice_index_or (numbers_of call) 0 0) (drop 1 (numbers_of call)) ≡ call) × MakesItself (numbers_of call)
+same_call Close = (refl, refl, ((omega arith, omega arith), refl))
+same_call call = (refl, refl, ((omega arith, omega arith), refl))
+
+pub calls_are_numbers : CallsAreNumbers
+calls_are_numbers = record {
+  count = λ call. (same_call call).0;
+  same_call = λ call. (same_call call).1;
+  of_a_call = λ row. (λ (call, e). subst MakesItself e (same_call call).2, λ makes. (call_made (slice_index_or row 0 0) (drop 1 row), makes.1));
+}
 
 -- ---- the values of each number's call
 
--- what holds of eight values holds of a list of them
-eight : (P : List ℕ → Type 0) → ((a b c d e f g h : ℕ) → P (a ∷ b ∷ c ∷ d ∷ e ∷ f ∷ g ∷ h ∷ [])) → (values : List ℕ) → length values ≡ 8 → P values
-eight P all (a ∷ b ∷ c ∷ d ∷ e ∷ f ∷ g ∷ h ∷ []) count = all a b c d e f g h
-eight P all values count = absurd (omega arith)
-
 -- of a number: its highest values, and the call of values up to them
 abbrev IsCallOf : ℕ → List ℕ → Type 0
-IsCallOf n values = AreUpTo values (highest_of n) → HasShortFields (call_of n values) × (fields_of (call_of n values) ≡ n ∷ values)
+IsCallOf n values =
+    AreUpTo values (drop 1 (highest_of n)) → HasShortFields (call_made n values) × (numbers_of (call_made n values) ≡ n ∷ values)
 
-record IsNumber (n : ℕ) : Type 0 where
-  short : AllByRecursion (λ h. h < 10 ^ 11) (highest_of n)
-  more : end_of (highest_of n) ≡ 44
-  count : length (highest_of n) ≡ 8
-  call : (a b c d e f g h : ℕ) → IsCallOf n (a ∷ b ∷ c ∷ d ∷ e ∷ f ∷ g ∷ h ∷ [])
+record Picks (n : ℕ) : Type 0 where
+  short : AllByRecursion (λ h. h < 10 ^ 11) (drop 1 (highest_of n))
+  more : end_of (drop 1 (highest_of n)) ≡ 44
+  count : length (drop 1 (highest_of n)) ≡ column_count - 1
+  call : (values : List ℕ) → IsCallOf n (map (λ k. get_or values k 0) (range_with_len 0 (column_count - 1)))
 
-numbers : (n : ℕ) → IsWithin 1 6 n → IsNumber n
-numbers zero within = absurd (omega (arith, within.0))
-numbers (suc zero) within = record { short = search rules; more = refl; count = refl; call = λ a b c d e f g h up. (search rules, refl) }
-numbers (suc (suc zero)) within = record { short = search rules; more = refl; count = refl; call = λ a b c d e f g h up. (search rules, grind arith) }
-numbers (suc (suc (suc zero))) within = record { short = search rules; more = refl; count = refl; call = λ a b c d e f g h up. (search rules, grind arith) }
-numbers (suc (suc (suc (suc zero)))) within = record { short = search rules; more = refl; count = refl; call = λ a b c d e f g h up. (search rules, grind arith) }
-numbers (suc (suc (suc (suc (suc zero))))) within = record { short = search rules; more = refl; count = refl; call = λ a b c d e f g h up. (search rules, grind arith) }
-numbers (suc (suc (suc (suc (suc (suc zero)))))) within = record { short = search rules; more = refl; count = refl; call = λ a b c d e f g h up. (search rules, grind arith) }
-numbers (suc (suc (suc (suc (suc (suc (suc n))))))) within = absurd (omega (arith, within.1))
+picks : (call : Call) → Picks (slice_index_or (numbers_of call) 0 0)
+picks Close = record { short = search rules; more = refl; count = refl; call = λ values up. (search rules, grind arith) }
+picks call = record { short = search rules; more = refl; count = refl; call = λ values up. (search rules, grind arith) }
+
+-- each number is that of some call
+numbers : (n : ℕ) → IsNumber n → Picks n
+numbers n within =
+    let same : slice_index_or (numbers_of (call_made n (replicate (column_count - 1) 0))) 0 0 ≡ n = grind (arith, nat_tests) in
+    subst Picks same (picks (call_made n (replicate (column_count - 1) 0)))
 
 -- ---- a line
 
+-- numbers as text, field by field
+text_ended : (ns : List ℕ) → 0 < length ns → line_text (map (λ n. Some n) ns) ≡ ended ns
+text_ended [] some = absurd (omega arith)
+text_ended (n ∷ []) some = refl
+text_ended (n ∷ m ∷ ns) some = append_assoc (decimal n) _ (10 ∷ []) ∙ ap (λ l. decimal n ++ 44 ∷ l) (text_ended (m ∷ ns) (omega arith))
+
+pub line_ended : (call : Call) → line_of call ≡ ended (numbers_of call)
+line_ended call = text_ended (numbers_of call) (omega (arith, calls_are_numbers.count call))
+
+pub line_some : (call : Call) → 0 < length (line_of call)
+line_some call = simp length-append (omega arith)
+
 -- the call of a number and values that it may have: its fields are short, and its line is theirs
-call_fits : (n : ℕ) (values : List ℕ) → IsWithin 1 6 n → AreUpTo values (highest_of n)
-    → HasShortFields (call_of n values) × (line_of (call_of n values) ≡ field_word 44 n ++ ended values)
+call_fits : (n : ℕ) (values : List ℕ) → IsNumber n → AreUpTo values (drop 1 (highest_of n))
+    → HasShortFields (call_made n values) × (line_of (call_made n values) ≡ field_word 44 n ++ ended values)
 call_fits n values within up =
     let number = numbers n within in
-    let call = eight (IsCallOf n) number.call values (length_all_zip _ values (highest_of n) up ∙ number.count) up in (
-      call.0,
-      ap (λ fs. join_with_byte 44 (map decimal fs) ++ 10 ∷ []) call.1 ∙ join_ended n values
-          ∙ ap (λ end. decimal n ++ end ∷ ended values) (end_same values (highest_of n) up ∙ number.more) ∙ sym (append_assoc (decimal n) (44 ∷ []) (ended values)),
-    )
+    let long = length_all_zip _ values (drop 1 (highest_of n)) up ∙ number.count in
+    let out = fill_by_all (λ k. get_or values k 0) values (column_count - 1) 0 long (λ k below. refl) in
+    let call = subst (IsCallOf n) (sym out) (number.call values) up in
+    (call.0, rw (line_ended (call_made n values), call.1, end_same values _ up, number.more, append_assoc (decimal n) (44 ∷ []) (ended values)))
 
 -- and each call with short fields is one
-call_made : (call : Call) → HasShortFields call → (n : ℕ) × (values : List ℕ) × IsWithin 1 6 n × AreUpTo values (highest_of n) × (call ≡ call_of n values)
-call_made (Enter e) short = (1, e.id ∷ e.kind ∷ e.category ∷ e.isd ∷ e.side ∷ e.amount ∷ e.deliverer ∷ e.receiver ∷ [], (omega arith, omega arith), search rules, refl)
-call_made (Hold id side on) short = (2, id ∷ 0 ∷ 0 ∷ 0 ∷ side ∷ on ∷ 0 ∷ 0 ∷ [], (omega arith, omega arith), search rules, refl)
-call_made (Lack id lack) short = (3, id ∷ 0 ∷ 0 ∷ 0 ∷ lack ∷ 0 ∷ 0 ∷ 0 ∷ [], (omega arith, omega arith), search rules, refl)
-call_made (Settle id part) short = (4, id ∷ 0 ∷ 0 ∷ 0 ∷ 0 ∷ part ∷ 0 ∷ 0 ∷ [], (omega arith, omega arith), search rules, refl)
-call_made (Cancel id) short = (5, id ∷ 0 ∷ 0 ∷ 0 ∷ 0 ∷ 0 ∷ 0 ∷ 0 ∷ [], (omega arith, omega arith), search rules, refl)
-call_made Close short = (6, 0 ∷ 0 ∷ 0 ∷ 0 ∷ 0 ∷ 0 ∷ 0 ∷ 0 ∷ [], (omega arith, omega arith), search rules, refl)
+made : (call : Call) → HasShortFields call
+    → (n : ℕ) × (values : List ℕ) × IsNumber n × AreUpTo values (drop 1 (highest_of n)) × (call ≡ call_made n values)
+made Close short = (slice_index_or (numbers_of Close) 0 0, drop 1 (numbers_of Close), (omega arith, omega arith), search rules, refl)
+made call short = (slice_index_or (numbers_of call) 0 0, drop 1 (numbers_of call), (omega arith, omega arith), search rules, refl)
 
 pub call_reads : Reads HasShortFields line_of call_read
 unfolding call_read
 call_reads =
-    both_reads (IsWithin 1 6) (field_word 44) _ (λ n values. AreUpTo values (highest_of n)) ended _ HasShortFields line_of call_of
-    (field_reads 1 6 44 (omega arith) (omega arith) (omega arith) (omega arith)) (λ n within. columns_reads (highest_of n) (numbers n within).short)
-    (λ n within. (highest_of n, up_to_themselves (highest_of n))) call_fits call_made
+    both_reads IsNumber (field_word 44) _ (λ n values. AreUpTo values (drop 1 (highest_of n))) ended _ HasShortFields line_of call_made
+    (field_reads 1 call_count 44 (omega arith) (omega arith) (omega arith) (omega arith))
+    (λ n within. values_reads (drop 1 (highest_of n)) (numbers n within).short)
+    (λ n within. (drop 1 (highest_of n), up_to_themselves (drop 1 (highest_of n)))) call_fits made
 
--- ---- what follows
+-- what a text is read as is right, and no call's line begins another's
+pub right : (text : List ℕ) (answer : Parsed Call) → call_read text ≡ answer → IsRightAnswer HasShortFields line_of call_read text answer
+right text answer is = subst (IsRightAnswer HasShortFields line_of call_read text) is (call_reads.right text)
 
--- what a text is read as is right
-pub call_stands : (text : List ℕ) (call : Call) (left : List ℕ) → call_read text ≡ Ok (call, left) → HasShortFields call × (text ≡ line_of call ++ left)
-call_stands text call left read = subst (IsRightAnswer HasShortFields line_of call_read text) read (call_reads.right text)
-
-pub stops_at : (text left : List ℕ) → call_read text ≡ Err left → Stops (IsWordOf HasShortFields line_of) call_read text left
-stops_at text left stopped = subst (IsRightAnswer HasShortFields line_of call_read text) stopped (call_reads.right text)
-
--- a call's line is read, whatever follows it
-pub line_read : (call : Call) (rest : List ℕ) → HasShortFields call → call_read (line_of call ++ rest) ≡ Ok (call, rest)
-line_read = call_reads.complete
-
--- so no call's line begins another's
-pub one_line : (one other : Call) (rest more : List ℕ) → HasShortFields one → HasShortFields other → line_of one ++ rest ≡ line_of other ++ more → (one ≡ other) × (rest ≡ more)
+pub one_line : (one other : Call) (rest more : List ℕ) → HasShortFields one → HasShortFields other
+    → line_of one ++ rest ≡ line_of other ++ more → (one ≡ other) × (rest ≡ more)
 one_line one other rest more short also e =
-    let same : ◌≡◌ {A = Answer Call} (Ok (one, rest)) (Ok (other, more)) = sym (line_read one rest short) ∙ ap call_read e ∙ line_read other more also in
-    let pair : ◌≡◌ {A = Call × List ℕ} (one, rest) (other, more) = cc in
+    let pair : ◌≡◌ {A = Call × List ℕ} (one, rest) (other, more) =
+    cc (call_reads.complete one rest short, call_reads.complete other more also) in
     (ap (λ read. read.0) pair, ap (λ read. read.1) pair)

@@ -1,12 +1,7 @@
 pub mod Readers
-pub mod Numerals
 pub mod Fields
 pub mod Calls
-pub mod Places
-pub mod Feeds
 pub mod Readings
 pub mod Scanned
 pub mod Files
-pub mod DecimalTexts
-pub mod Buffers
 pub mod WorkedTexts

@@ -1,33 +1,21 @@
 -- What a correct line is, and which byte of a wrong one is the first wrong one. docs/RULES.md, 'The calls as text'.
-use Rattle.std.specs.Prelude.{◌≡◌, ℕ, suc, ◌^◌, ◌≤◌, ◌<◌, List, [], ◌∷◌, ◌++◌, length, take, map}
-use Rattle.std.specs.List.{AllByRecursion, join_with_byte}
-use Rattle.std.specs.Fmt.{decimal}
+use Rattle.std.specs.Prelude.{◌≡◌, ℕ, suc, ◌^◌, ◌≤◌, ◌<◌, List, ◌++◌, length, take, map, Some}
+use Rattle.std.specs.List.{AllByRecursion}
 use Rattle.book.specs.declared.calls.Call.{Call}
-use Rattle.book.specs.declared.calls.Call.TheVariants.{Enter, Hold, Lack, Settle, Cancel, Close}
+use Rattle.texts.specs.Lines.{line_text}
+use Rattle.lines.specs.Table.{numbers_of}
 
--- The fields of a call's line: call, id, kind, category, day, side, amount, deliverer, receiver. Hold puts its on/off in
--- amount, lack its value in side, settle its part in amount. A field that a call doesn't use is 0.
-abbrev pub fields_of : Call → List ℕ
-fields_of (Enter e) = 1 ∷ e.id ∷ e.kind ∷ e.category ∷ e.isd ∷ e.side ∷ e.amount ∷ e.deliverer ∷ e.receiver ∷ []
-fields_of (Hold id side on) = 2 ∷ id ∷ 0 ∷ 0 ∷ 0 ∷ side ∷ on ∷ 0 ∷ 0 ∷ []
-fields_of (Lack id lack) = 3 ∷ id ∷ 0 ∷ 0 ∷ 0 ∷ lack ∷ 0 ∷ 0 ∷ 0 ∷ []
-fields_of (Settle id part) = 4 ∷ id ∷ 0 ∷ 0 ∷ 0 ∷ 0 ∷ part ∷ 0 ∷ 0 ∷ []
-fields_of (Cancel id) = 5 ∷ id ∷ 0 ∷ 0 ∷ 0 ∷ 0 ∷ 0 ∷ 0 ∷ 0 ∷ []
-fields_of Close = 6 ∷ 0 ∷ 0 ∷ 0 ∷ 0 ∷ 0 ∷ 0 ∷ 0 ∷ 0 ∷ []
-
--- a call that a line can hold: no field has more than 11 digits
+-- a call that a line can hold: no number has more than 11 digits
 abbrev pub HasShortFields : Call → Type 0
-HasShortFields call = AllByRecursion (λ n. n < 10 ^ 11) (fields_of call)
+HasShortFields call = AllByRecursion (λ n. n < 10 ^ 11) (numbers_of call)
 
--- the line of a call: its fields in decimal with commas between them, and LF
+-- the line of a call: its numbers in decimal with commas between them, and LF
 abbrev pub line_of : Call → List ℕ
-line_of call = join_with_byte 44 (map decimal (fields_of call)) ++ 10 ∷ []
+line_of call = line_text (map (λ number. Some number) (numbers_of call))
 
--- a correct line
-pub record IsLine (word : List ℕ) : Type 0 where
-  pub call : Call
-  pub short : HasShortFields call
-  pub whole : word ≡ line_of call
+-- a correct line: that of some call
+abbrev pub IsLine : List ℕ → Type 0
+IsLine word = (call : Call) × HasShortFields call × (word ≡ line_of call)
 
 -- the bytes begin a word of a language, as a correct line
 abbrev pub Begins : (List ℕ → Type 0) → List ℕ → Type 0

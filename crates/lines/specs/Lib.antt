@@ -1,3 +1,4 @@
+pub mod Table
 pub mod Grammar
 pub mod Reading
 pub mod Written

@@ -28,10 +28,6 @@ pub record IsLineAt (text : List ℕ) (at : ℕ) (line : Line) (next : ℕ) : Ty
 abbrev pub IsReading : List ℕ → ℕ → Option (Line × ℕ) → Type 0
 IsReading text at read = MatchOption read (length text ≤ at) (λ (line, next). IsLineAt text at line next)
 
--- the first line of a text, if it has one
-abbrev pub IsFirstLine : List ℕ → Option Line → Type 0
-IsFirstLine text line = MatchOption line (text ≡ []) (λ first. (next : ℕ) × IsLineAt text 0 first next)
-
 -- the reader's next line: where no byte is left there is none, and the reader stays
 abbrev pub GivesLine : Lines → Option Line → Lines → Type 0
 GivesLine before None after = (length before.text.now ≤ before.at) × (after ≡ before)
@@ -42,7 +38,7 @@ abbrev pub AreLines : List ℕ → ℕ → List Line → Type 0
 AreLines text at [] = length text ≤ at
 AreLines text at (line ∷ lines) = (next : ℕ) × IsLineAt text at line next × AreLines text next lines
 
--- ---- what follows, each with its function in `law`
+-- ---- what follows, each with its function in `theorems`
 
 -- the line of this call stands at the start of a text
 abbrev pub LineStands : Call → List ℕ → Type 0

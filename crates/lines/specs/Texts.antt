@@ -6,7 +6,7 @@ use Rattle.lines.specs.declared.reader.Line.{Line}
 use Rattle.lines.specs.declared.reader.Line.TheVariants.{Correct}
 use Rattle.lines.specs.Grammar.{HasShortFields, line_of}
 use Rattle.lines.specs.Reading.{AreLines, IsLineAt, is_line_feed}
-use Rattle.lines.specs.Written.{names}
+use Rattle.lines.specs.Written.{names_line}
 
 -- a text cut behind each LF; its last piece may have none
 abbrev pub cut : List ℕ → List (List ℕ)
@@ -24,12 +24,12 @@ pub record ArePieces (text : List ℕ) (lines : List Line) : Type 0 where
 
 -- a call file: the names line, then one line a call
 abbrev pub file_of : List Call → List ℕ
-file_of calls = names ++ flat_map line_of calls
+file_of calls = names_line ++ flat_map line_of calls
 
 -- a text is a call file with no wrong line, of whatever length, and these are its calls
 pub record ReadsAs (text : List ℕ) (calls : List Call) : Type 0 where
   pub rest : List ℕ
-  pub named : text ≡ names ++ rest
+  pub named : text ≡ names_line ++ rest
   pub lines : AreLines rest 0 (map (λ call. Correct call) calls)
 
 -- A text reads as some calls exactly where it is the file that is written of them, none with a field of more than 11 digits.

@@ -1,19 +1,25 @@
 -- Lines worked by hand: each kind of wrong byte, correct lines, and the worked file of docs/RULES.md.
-use Rattle.std.specs.Prelude.{◌≡◌, codes, ℕ, List, [], ◌∷◌, ◌++◌, Bool, true, false, MatchBool, Option, Some, None}
-use Rattle.std.specs.List.{AllByRecursion, flat_map}
+use Rattle.std.specs.Prelude.{◌≡◌, codes, ℕ, List, [], ◌∷◌, ◌++◌, Bool, true, false, MatchBool, MatchOption, Option, Some, None, length, ◌==◌}
+use Rattle.std.specs.List.{AllByRecursion, flat_map, slice_split}
 use Prim.Native.String.{String}
 use Rattle.book.specs.declared.calls.Call.{Call}
+use Rattle.book.specs.declared.pairs.Entry.{Entry}
 use Rattle.book.specs.declared.calls.Call.TheVariants.{Enter, Hold, Lack, Settle, Cancel, Close}
 use Rattle.lines.specs.declared.reader.Line.{Line}
 use Rattle.lines.specs.declared.reader.Line.TheVariants.{Correct, Wrong}
-use Rattle.lines.specs.Reading.{IsFirstLine, AreLines, IsReading}
-use Rattle.lines.specs.Written.{names, HasNoNames}
+use Rattle.lines.specs.Reading.{AreLines, IsLineAt, IsReading}
+use Rattle.lines.specs.Table.{column_count}
+use Rattle.lines.specs.Written.{names_line, HasNoNames}
 use Rattle.lines.specs.Texts.{ReadsAs, file_of}
 
 -- a text, and what its first line is read as
 pub record Case : Type 0 where
   pub text : String
   pub line : Option Line
+
+-- the first line of a text, if it has one
+abbrev pub IsFirstLine : List ℕ → Option Line → Type 0
+IsFirstLine text line = MatchOption line (text ≡ []) (λ first. (next : ℕ) × IsLineAt text 0 first next)
 
 -- it is read so
 abbrev pub IsRead : Case → Type 0
@@ -26,18 +32,14 @@ correct text call = record { text = text; line = Some (Correct call) }
 abbrev pub wrong : String → ℕ → Case
 wrong text place = record { text = text; line = Some (Wrong place) }
 
--- an enter of these values
+-- a pair: id, kind, category, ISD, side, amount, deliverer, receiver
+abbrev pub entry_of : ℕ → ℕ → ℕ → ℕ → ℕ → ℕ → ℕ → ℕ → Entry
+entry_of id kind category isd side amount deliverer receiver =
+    record { id = id; kind = kind; category = category; isd = isd; side = side; amount = amount; deliverer = deliverer; receiver = receiver }
+
+-- its enter
 abbrev pub enter : ℕ → ℕ → ℕ → ℕ → ℕ → ℕ → ℕ → ℕ → Call
-enter id kind category isd side amount deliverer receiver = Enter (record {
-  id = id;
-  kind = kind;
-  category = category;
-  isd = isd;
-  side = side;
-  amount = amount;
-  deliverer = deliverer;
-  receiver = receiver;
-})
+enter id kind category isd side amount deliverer receiver = Enter (entry_of id kind category isd side amount deliverer receiver)
 
 -- ---- lines
 
@@ -205,7 +207,7 @@ names_case text named = record { text = text; named = named }
 
 -- it starts so, or doesn't
 abbrev pub IsNamed : NamesCase → Type 0
-IsNamed named = MatchBool named.named ((rest : List ℕ) × (codes named.text ≡ names ++ rest)) (HasNoNames (codes named.text))
+IsNamed named = MatchBool named.named ((rest : List ℕ) × (codes named.text ≡ names_line ++ rest)) (HasNoNames (codes named.text))
 
 -- the names line, and what is none
 abbrev pub names_lines : List NamesCase
@@ -228,6 +230,10 @@ names_lines =
     ∷ names_case "call,id,kind,category,day,side,amount,receiver,deliverer\n" false
     ∷ []
 
+-- the names line names each column: commas stand between the names
+abbrev pub EachNamed : Type 0
+EachNamed = length (slice_split (λ byte. byte == 44) names_line) ≡ column_count
+
 -- every line, text and names line above is read as it says
 pub record WorkedHold : Type 0 where
   pub correct : AllByRecursion IsRead correct_lines
@@ -238,3 +244,4 @@ pub record WorkedHold : Type 0 where
   pub end : EndHolds
   pub file : ExampleHolds
   pub named : AllByRecursion IsNamed names_lines
+  pub columns : EachNamed

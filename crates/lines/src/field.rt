@@ -22,7 +22,7 @@ fn with_digit(value: u64, digits: usize, byte: u8, lowest: u64, highest: u64) ->
 
 /// The number of a field within its bounds and what is left behind the byte that ends it, or what is left from the first
 /// wrong byte on.
-#[tactic(auto, using(crate::proofs::Numerals::field_loop))]
+#[tactic(auto, using(crate::proofs::Fields::field_loop), unfolding(crate::specs::Parts::field_read))]
 pub(crate) fn field(text: &[u8], lowest: u64, highest: u64, end: u8) -> Result<(u64, &[u8]), &[u8]>
     requires { highest < 10 ^ 11 }
     ensures read { IfOk result (λ read. field_read lowest highest end text.now true 0 ≡ Ok (read.0, read.1.now)) }

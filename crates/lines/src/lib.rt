@@ -2,8 +2,8 @@
 #![tactic(auto)]
 
 mod field;
-pub mod law;
 mod line;
 pub mod reader;
-pub mod writing;
+pub mod table;
+pub mod theorems;
 pub mod written;

@@ -1,80 +1,33 @@
-//! One line: its fields, and the call that they are.
+//! One line: its values, and the call that it is.
 
-ghost use Rattle.std.specs.Prelude.{◌≡◌, ◌^◌, ◌<◌, Ok, Err, IfOk, IfErr, All, ◌==◌, if◌then◌else◌};
-ghost use Rattle.lines.specs.Parts.{call_of, call_read, columns_read, highest_of};
+ghost use Rattle.std.specs.Prelude.{◌≡◌, ◌+◌, ◌^◌, ◌<◌, Ok, Err, IfOk, IfErr, All, length, ◌==◌, if◌then◌else◌};
+ghost use Rattle.lines.specs.Parts.{call_read, values_read};
 
 use crate::field::field;
+use crate::table::{CALLS, VALUES, call_made, highest_of};
 use book::calls::Call;
-use book::pairs::Entry;
 
-/// How many fields stand behind the call's number.
-const COLUMNS: usize = 8;
-
-/// The largest number of 11 digits.
-const MOST: u64 = 99_999_999_999;
-
-/// The highest value of each field behind the call's number: 0 where the call doesn't use it. It stands beside `call_of`, which
-/// names these fields: the reader wants the table before it has a call, and one made of the other is no plainer.
-fn highest_of(number: u64) -> [u64; COLUMNS]
-    ensures { result ≡ highest_of number }
+/// What ends the field of a value: a comma where more follow, and else LF.
+fn end_of(i: usize) -> u8
+    requires { i < VALUES }
+    ensures { result ≡ (if i + 1 == VALUES then 10 else 44) }
 {
-    match number {
-        1 => [MOST; COLUMNS],
-        2 => [MOST, 0, 0, 0, MOST, MOST, 0, 0],
-        3 => [MOST, 0, 0, 0, MOST, 0, 0, 0],
-        4 => [MOST, 0, 0, 0, 0, MOST, 0, 0],
-        5 => [MOST, 0, 0, 0, 0, 0, 0, 0],
-        _ => [0; COLUMNS],
-    }
+    if i + 1 == VALUES { b'\n' } else { b',' }
 }
 
-/// The call with these fields.
-fn call_of(number: u64, values: [u64; COLUMNS]) -> Call
-    ensures { result ≡ call_of number values }
+/// The values of a line and what is left behind it, or what is left from the first wrong byte on.
+#[tactic(auto, using(crate::proofs::Fields::values_loop))]
+fn values<'a>(text: &'a [u8], highest: &[u64]) -> Result<([u64; VALUES], &'a [u8]), &'a [u8]>
+    requires count { length highest.now ≡ VALUES }
+    requires short { All (λ most. most < 10 ^ 11) highest.now }
+    ensures read { IfOk result (λ read. values_read highest.now text.now ≡ Ok (read.0, read.1.now)) }
+    ensures wrong { IfErr result (λ left. values_read highest.now text.now ≡ Err left.now) }
 {
-    let [id, kind, category, isd, side, amount, deliverer, receiver] = values;
-    match number {
-        1 => Call::Enter(Entry {
-            id,
-            kind,
-            category,
-            isd,
-            side,
-            amount,
-            deliverer,
-            receiver,
-        }),
-        2 => Call::Hold {
-            id,
-            side,
-            on: amount,
-        },
-        3 => Call::Lack { id, lack: side },
-        4 => Call::Settle { id, part: amount },
-        5 => Call::Cancel { id },
-        _ => Call::Close,
-    }
-}
-
-/// What ends a field: a comma where more follow, and else LF.
-fn end_of(column: usize) -> u8
-    ensures { result ≡ (if column == 7 then 10 else 44) }
-{
-    if column == COLUMNS - 1 { b'\n' } else { b',' }
-}
-
-/// The fields behind the call's number and what is left behind the line, or what is left from the first wrong byte on.
-#[tactic(auto, using(crate::proofs::Fields::columns_loop))]
-fn columns(text: &[u8], highest: [u64; COLUMNS]) -> Result<([u64; COLUMNS], &[u8]), &[u8]>
-    requires { All (λ most. most < 10 ^ 11) highest }
-    ensures read { IfOk result (λ read. columns_read highest text.now ≡ Ok (read.0, read.1.now)) }
-    ensures wrong { IfErr result (λ left. columns_read highest text.now ≡ Err left.now) }
-{
-    let mut values = [0; COLUMNS];
+    let mut values = [0; VALUES];
     let mut left = text;
-    for (column, most) in highest.iter().enumerate() {
-        let (value, behind) = field(left, 0, *most, end_of(column))?;
-        values[column] = value;
+    for (i, most) in highest.iter().enumerate() {
+        let (value, behind) = field(left, 0, *most, end_of(i))?;
+        values[i] = value;
         left = behind;
     }
     Ok((values, left))
@@ -87,7 +40,7 @@ pub(crate) fn read_call(text: &[u8]) -> Result<(Call, &[u8]), &[u8]>
     ensures read { IfOk result (λ read. call_read text.now ≡ Ok (read.0, read.1.now)) }
     ensures wrong { IfErr result (λ left. call_read text.now ≡ Err left.now) }
 {
-    let (number, left) = field(text, 1, 6, b',')?;
-    let (values, left) = columns(left, highest_of(number))?;
-    Ok((call_of(number, values), left))
+    let (number, left) = field(text, 1, CALLS, b',')?;
+    let (values, left) = values(left, &highest_of(number)[1..])?;
+    Ok((call_made(number, &values), left))
 }

@@ -1,9 +1,10 @@
 //! The reader of lines: the lent text and a position.
 
-ghost use Rattle.std.specs.Prelude.{◌≡◌, ℕ, ◌+◌, ◌-◌, ◌<◌, ◌≤◌, ◌==◌, length, drop, position};
+ghost use Rattle.std.specs.Prelude.{◌≡◌, ◌-◌, ◌≤◌, length, position};
 ghost use Rattle.std.specs.List.{after_first};
 ghost use Rattle.std.specs.Iterator.{at_most};
-ghost use Rattle.lines.specs.Reading.{IsLineAt, IsReading, IsFirstLine, is_line_feed};
+ghost use Rattle.lines.specs.Parts.{line_read};
+ghost use Rattle.lines.specs.Reading.{IsReading, is_line_feed};
 
 use crate::line::read_call;
 use book::calls::Call;
@@ -38,51 +39,39 @@ fn behind_line_feed(text: &[u8]) -> &[u8]
     }
 }
 
-/// The place, from the start of the line at a place of a text, of the byte with which what is left of the text begins.
-fn place_of(text: &[u8], at: usize, left: &[u8]) -> usize
-    requires { at + length left.now ≤ length text.now }
-    ensures { at + result + length left.now ≡ length text.now }
+/// The place in a text of what is left of it.
+fn place_of(text: &[u8], left: &[u8]) -> usize
+    requires { length left.now ≤ length text.now }
+    ensures { result ≡ length text.now - length left.now }
 {
-    text.len() - at - left.len()
+    text.len() - left.len()
 }
 
-/// The line at a place of the text, where a byte is left, and the place where the next one starts.
-#[tactic(auto, using(crate::proofs::Places::behind_call, crate::proofs::Places::from_wrong))]
-fn line_at(text: &[u8], at: usize) -> (Line, usize)
-    requires { at < length text.now }
-    ensures { IsLineAt text.now at result.0 result.1 }
+/// The line at a text's start, where a byte is left, and what is left behind it.
+#[tactic(auto, using(crate::proofs::Readings::from_wrong))]
+fn first_line(text: &[u8]) -> (Line, &[u8])
+    ensures line { result.0 ≡ (line_read text.now).0 }
+    ensures left { result.1.now ≡ (line_read text.now).1 }
 {
-    let (_, line) = text.split_at(at);
-    match read_call(line) {
-        Ok((call, left)) => (Line::Correct(call), text.len() - left.len()),
-        Err(left) => {
-            let place = place_of(text, at, left);
-            (
-                Line::Wrong(place),
-                text.len() - behind_line_feed(left).len(),
-            )
-        }
+    match read_call(text) {
+        Ok((call, left)) => (Line::Correct(call), left),
+        Err(left) => (Line::Wrong(place_of(text, left)), behind_line_feed(left)),
     }
 }
 
 /// The line at a place of the text, which may be any number, and the place where the next one starts; with no byte left there
 /// is no line.
+#[tactic(auto, using(crate::proofs::Readings::left_within))]
 pub fn read_line(text: &[u8], at: usize) -> Option<(Line, usize)>
     ensures { IsReading text.now at result }
 {
     if at < text.len() {
-        Some(line_at(text, at))
+        let (_, rest) = text.split_at(at);
+        let (line, left) = first_line(rest);
+        Some((line, at + place_of(rest, left)))
     } else {
         None
     }
-}
-
-/// The first call line of a file: the one behind its first line, whether or not that is the names line.
-pub fn first_call_line(text: &[u8]) -> Option<Line>
-    ensures { IsFirstLine (after_first is_line_feed text.now) result }
-{
-    let (line, _) = read_line(behind_line_feed(text), 0)?;
-    Some(line)
 }
 
 /// The lines of a text, from a position on.

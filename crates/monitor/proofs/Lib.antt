@@ -1,12 +1,6 @@
+pub mod Words
 pub mod Joined
-pub mod Asked
-pub mod Made
 pub mod Replays
 pub mod Answered
 pub mod Lengths
-pub mod Rows
-pub mod Tables
-pub mod Reported
-pub mod Listed
-pub mod Bounds
 pub mod WorkedTexts

@@ -12,11 +12,11 @@ day_from v [] = Some v
 day_from v (b ∷ bs) = if is_ascii_digit b then day_from (min (v * 10 + (b - 48)) day_limit) bs else None
 
 -- one digit or more, and no other byte
-abbrev pub day_of : List ℕ → Option ℕ
-day_of [] = None
-day_of (b ∷ bs) = day_from 0 (b ∷ bs)
+abbrev pub parse_day : List ℕ → Option ℕ
+parse_day [] = None
+parse_day (b ∷ bs) = day_from 0 (b ∷ bs)
 
 -- from the first to the last, or all closed days; where none is closed, day 0, which is refused
-abbrev pub run_of : ℕ → Days → ℕ × ℕ
-run_of today AllClosed = (0, today - 1)
-run_of today (FromTo first last) = (first, last)
+abbrev pub first_and_last : ℕ → Days → ℕ × ℕ
+first_and_last today AllClosed = (0, today - 1)
+first_and_last today (FromTo first last) = (first, last)

@@ -1,10 +1,10 @@
 pub mod Replay
+pub mod Days
 pub mod Texts
 pub mod RowText
 pub mod Table
 pub mod Answers
-pub mod Days
 pub mod ReportTable
 pub mod ListTable
-pub mod Laws
+pub mod Theorems
 pub mod Worked

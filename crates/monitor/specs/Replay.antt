@@ -12,7 +12,7 @@ use Rattle.balance.specs.DailyBalance.{BalancesOnClosedDays}
 use Rattle.lines.specs.declared.reader.Line.{Line}
 use Rattle.lines.specs.declared.reader.Line.TheVariants.{Correct, Wrong}
 use Rattle.lines.specs.Reading.{AreLines}
-use Rattle.lines.specs.Written.{names}
+use Rattle.lines.specs.Written.{names_line}
 use Rattle.monitor.specs.declared.replay.LineAnswer.{LineAnswer}
 use Rattle.monitor.specs.declared.replay.LineAnswer.TheVariants.{Made, WrongByte}
 use Rattle.monitor.specs.declared.replay.Replayed.{Replayed}
@@ -25,7 +25,7 @@ file_limit = 65536
 
 -- the names line, and so much behind it, of no more bytes together
 pub record IsSound (file rest : List ℕ) : Type 0 where
-  pub names_line : file ≡ names ++ rest
+  pub named : file ≡ names_line ++ rest
   pub short : length file ≤ file_limit
 
 -- any other file

@@ -1,34 +1,30 @@
 -- A row as text: one line of the table with its LF.
-use Rattle.std.specs.Prelude.{◌≡◌, ℕ, ◌≤◌, List, [], ◌∷◌, ◌++◌, length, take, drop, min, nat_lt, Result, Ok, Err, if◌then◌else◌}
+use Rattle.std.specs.Prelude.{◌≡◌, ℕ, ◌≤◌, List, [], ◌∷◌, ◌++◌, length, drop, min, nat_lt, Option, Some, Result, Ok, Err, if◌then◌else◌}
 use Rattle.book.specs.declared.calls.Call.{Call}
 use Rattle.book.specs.declared.calls.Refusal.{Refusal}
 use Rattle.book.specs.declared.calls.Refusal.TheVariants.{ShortBuffer}
 use Rattle.book.specs.declared.rows.Row.{Row}
 use Rattle.book.specs.Rows.{row_answer}
 use Rattle.history.specs.History.{book_of}
-use Rattle.monitor.specs.Texts.{joined}
+use Rattle.texts.specs.Lines.{line_text, written}
 
 -- the columns of the table: day,total_n,settled_n,sec_n,cash_n,total_v,settled_v,sec_v,cash_v,isd_v
-abbrev pub row_fields : ℕ → Row → List ℕ
+unfoldable pub row_fields : ℕ → Row → List (Option ℕ)
 row_fields day r =
-    day
-    ∷ r.total.number
-    ∷ r.settled.number
-    ∷ r.securities.number
-    ∷ r.cash.number
-    ∷ r.total.value
-    ∷ r.settled.value
-    ∷ r.securities.value
-    ∷ r.cash.value
-    ∷ r.isd_value
+    Some day
+    ∷ Some r.total.number
+    ∷ Some r.settled.number
+    ∷ Some r.securities.number
+    ∷ Some r.cash.number
+    ∷ Some r.total.value
+    ∷ Some r.settled.value
+    ∷ Some r.securities.value
+    ∷ Some r.cash.value
+    ∷ Some r.isd_value
     ∷ []
 
 abbrev pub row_line : ℕ → Row → List ℕ
-row_line day r = joined 10 (row_fields day r)
-
--- as much of a text as a buffer has room for, at its start; the bytes behind it stay
-abbrev pub written : List ℕ → List ℕ → List ℕ
-written text buffer = let count = min (length text) (length buffer) in take count text ++ drop count buffer
+row_line day r = line_text (row_fields day r)
 
 -- a shorter buffer is refused
 abbrev pub shortest_buffer : ℕ

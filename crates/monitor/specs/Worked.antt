@@ -9,11 +9,12 @@ use Rattle.history.specs.History.{book_of}
 use Rattle.lines.specs.Worked.{worked_file, worked_calls}
 use Rattle.monitor.specs.declared.days.Days.TheVariants.{AllClosed, FromTo}
 use Rattle.monitor.specs.Texts.{IsTextOf}
-use Rattle.monitor.specs.RowText.{written, row_text}
-use Rattle.monitor.specs.Table.{table}
-use Rattle.monitor.specs.ReportTable.{reports}
-use Rattle.monitor.specs.ListTable.{lists}
-use Rattle.monitor.specs.Answers.{answers}
+use Rattle.texts.specs.Lines.{written}
+use Rattle.monitor.specs.RowText.{row_text}
+use Rattle.monitor.specs.Table.{table_text}
+use Rattle.monitor.specs.ReportTable.{reports_text}
+use Rattle.monitor.specs.ListTable.{lists_text}
+use Rattle.monitor.specs.Answers.{answers_text}
 
 -- lines as one text
 abbrev pub text_of : List String → List ℕ
@@ -133,10 +134,10 @@ abbrev pub fault_lines : List ℕ
 fault_lines = text_of ("fault\n" ∷ "10\n" ∷ [])
 
 pub record IsFaultAll (file : List ℕ) : Type 0 where
-  pub table_text : IsTextOf table file fault_lines
-  pub reports_text : IsTextOf (reports AllClosed) file fault_lines
-  pub lists_text : IsTextOf (lists AllClosed) file fault_lines
-  pub answers_text : IsTextOf answers file fault_lines
+  pub table : IsTextOf table_text file fault_lines
+  pub reports : IsTextOf (reports_text AllClosed) file fault_lines
+  pub lists : IsTextOf (lists_text AllClosed) file fault_lines
+  pub answers : IsTextOf answers_text file fault_lines
 
 -- ---- rows as text
 
@@ -166,19 +167,19 @@ pub record RowsHold : Type 0 where
 -- ---- that they hold
 
 pub record TextsHold : Type 0 where
-  pub table_text : IsTextOf table worked_file worked_table
-  pub reports_text : IsTextOf (reports AllClosed) worked_file worked_reports
-  pub run : IsTextOf (reports (FromTo 0 3)) worked_file worked_reports
+  pub table : IsTextOf table_text worked_file worked_table
+  pub reports : IsTextOf (reports_text AllClosed) worked_file worked_reports
+  pub run : IsTextOf (reports_text (FromTo 0 3)) worked_file worked_reports
   -- day 4 is not closed, and 3 is after 2
-  pub refused : IsTextOf (reports (FromTo 3 4)) worked_file refused_reports
-  pub wrong_way_round : IsTextOf (reports (FromTo 3 2)) worked_file refused_reports
-  pub lists_text : IsTextOf (lists AllClosed) worked_file worked_lists
-  pub lists_of_run : IsTextOf (lists (FromTo 0 3)) worked_file worked_lists
-  pub refused_run : IsTextOf (lists (FromTo 3 4)) worked_file refused_lists
-  pub lists_wrong_way_round : IsTextOf (lists (FromTo 3 2)) worked_file refused_lists
-  pub mixed : IsTextOf table mixed_file mixed_table
-  pub answers_text : IsTextOf answers mixed_file mixed_answers
-  pub empty : IsTextOf table no_calls no_calls_table
-  pub unclosed : IsTextOf (reports AllClosed) no_calls refused_reports
-  pub unclosed_lists : IsTextOf (lists AllClosed) no_calls refused_lists
+  pub refused : IsTextOf (reports_text (FromTo 3 4)) worked_file refused_reports
+  pub wrong_way_round : IsTextOf (reports_text (FromTo 3 2)) worked_file refused_reports
+  pub lists : IsTextOf (lists_text AllClosed) worked_file worked_lists
+  pub lists_of_run : IsTextOf (lists_text (FromTo 0 3)) worked_file worked_lists
+  pub refused_run : IsTextOf (lists_text (FromTo 3 4)) worked_file refused_lists
+  pub lists_wrong_way_round : IsTextOf (lists_text (FromTo 3 2)) worked_file refused_lists
+  pub mixed : IsTextOf table_text mixed_file mixed_table
+  pub answers : IsTextOf answers_text mixed_file mixed_answers
+  pub empty : IsTextOf table_text no_calls no_calls_table
+  pub unclosed : IsTextOf (reports_text AllClosed) no_calls refused_reports
+  pub unclosed_lists : IsTextOf (lists_text AllClosed) no_calls refused_lists
   pub faulty : AllByRecursion IsFaultAll faulty_files

@@ -2,15 +2,16 @@
 
 ghost use Rattle.std.specs.Prelude.{◌≡◌, ◌+◌, ◌≤◌, ◌++◌, [], length};
 ghost use Rattle.monitor.specs.Texts.{IsTextOf};
-ghost use Rattle.lines.specs.Written.{names};
+ghost use Rattle.lines.specs.Written.{names_line};
 ghost use Rattle.monitor.specs.Replay.{file_limit};
-ghost use Rattle.monitor.specs.Answers.{answer_line, answers, AreAnswers};
+ghost use Rattle.monitor.specs.Answers.{answer_line, answers_text, AreAnswers};
 
-use crate::page::{FAULT, Page, push, push_number};
+use crate::refused::or_fault;
 use crate::replay::{LineAnswer, lines_of, make};
 use book::book::Book;
 use book::calls::number_of;
 use lines::reader::Lines;
+use texts::page::{Page, push, push_field, push_line};
 
 /// As many bytes as the answers may take: 18 for each byte of a file.
 pub const ANSWER_ROOM: usize = 1_179_648;
@@ -21,15 +22,14 @@ fn push_answer<const N: usize>(page: &mut Page<N>, number: u64, answer: LineAnsw
     requires { length page.old.items + length (answer_line number answer) ≤ N }
     ensures { page.new.items ≡ page.old.items ++ answer_line number answer }
 {
-    push_number(page, number, b',');
     match answer {
         LineAnswer::Made(answer) => {
-            push_number(page, number_of(answer), b',');
-            push(page, b"-\n");
+            push_line(page, &[Some(number), Some(number_of(answer)), None]);
         }
         LineAnswer::WrongByte(place) => {
-            push(page, b"wrong,");
-            push_number(page, place as u64, b'\n');
+            push_field(page, Some(number));
+            push(page, b",wrong,");
+            push_line(page, &[Some(place as u64)]);
         }
     }
 }
@@ -38,7 +38,7 @@ fn push_answer<const N: usize>(page: &mut Page<N>, number: u64, answer: LineAnsw
 fn push_answers(page: &mut Page<ANSWER_ROOM>, lines: Lines<'_>)
     requires empty { page.old.items ≡ [] }
     requires start { lines.at ≡ 0 }
-    requires short { length lines.text.now + length names ≤ file_limit }
+    requires short { length lines.text.now + length names_line ≤ file_limit }
     ensures { AreAnswers lines.entry.text.now page.new.items }
 {
     push(page, b"line,answer,place\n");
@@ -49,13 +49,10 @@ fn push_answers(page: &mut Page<ANSWER_ROOM>, lines: Lines<'_>)
 }
 
 /// What came of each line of a file.
-// As `write_table` but for the text.
 pub fn write_answers(file: &[u8], page: &mut Page<ANSWER_ROOM>)
-    ensures { IsTextOf answers file.now page.new.items }
+    ensures { IsTextOf answers_text file.now page.new.items }
 {
-    page.clear();
-    match lines_of(file) {
-        Ok(lines) => push_answers(page, lines),
-        Err(_) => push(page, FAULT),
+    if let Ok(lines) = or_fault(page, lines_of(file)) {
+        push_answers(page, lines);
     }
 }

@@ -1,7 +1,7 @@
 //! The days that a program is asked for, and the run of days that a text is over.
 
 ghost use Rattle.std.specs.Prelude.{◌≡◌};
-ghost use Rattle.monitor.specs.Days.{day_of, run_of};
+ghost use Rattle.monitor.specs.Days.{parse_day, first_and_last};
 
 use book::limits::DAYS;
 
@@ -16,8 +16,8 @@ pub enum Days {
 }
 
 /// The day that digits say, 64 for each number over 63; other bytes, and none, say no day.
-pub fn day_of(digits: &[u8]) -> Option<u64>
-    ensures { result ≡ day_of digits.now }
+pub fn parse_day(digits: &[u8]) -> Option<u64>
+    ensures { result ≡ parse_day digits.now }
 {
     if digits.is_empty() {
         return None;
@@ -34,8 +34,8 @@ pub fn day_of(digits: &[u8]) -> Option<u64>
 
 impl Days {
     /// The first and the last of them on a day; where none is closed, day 0, whose text is refused.
-    pub(crate) fn run(self, today: u64) -> (u64, u64)
-        ensures { result ≡ run_of today self }
+    pub(crate) fn first_and_last(self, today: u64) -> (u64, u64)
+        ensures { result ≡ first_and_last today self }
     {
         match self {
             Days::AllClosed => (0, today.saturating_sub(1)),

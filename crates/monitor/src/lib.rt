@@ -3,10 +3,10 @@
 
 pub mod answers;
 pub mod days;
-pub mod laws;
 pub mod list_table;
-pub mod page;
+mod refused;
 pub mod replay;
 pub mod report_table;
 pub mod row_text;
 pub mod table;
+pub mod theorems;

@@ -2,16 +2,18 @@
 
 ghost use Rattle.std.specs.Prelude.{◌≡◌, ◌+◌, ◌≤◌, ◌++◌, [], length};
 ghost use Rattle.std.specs.List.{flat_map};
-ghost use Rattle.monitor.specs.Texts.{IsTextOf};
-ghost use Rattle.monitor.specs.ListTable.{measure_text, participant_line, list_lines, both_lists, lists_over, lists_of, lists};
+ghost use Rattle.monitor.specs.Texts.{IsTextOf, over_days};
+ghost use Rattle.monitor.specs.ListTable.{list_names, measure_text, participant_line, list_lines, both_lists, lists_text};
 
 use crate::days::Days;
-use crate::page::{FAULT, Page, push, push_numbers, push_refused};
+use crate::refused::{or_fault, run_or_refused};
 use crate::replay::Replayed;
 use book::book::Book;
+use book::figures::Measure;
 use ranking::participant::Participant;
-use ranking::runs::{Measure, highest_rates};
+use ranking::runs::highest_rates;
 use reports::run::Run;
+use texts::page::{Page, push, push_line};
 
 /// As many bytes as the lists may take.
 pub const LIST_ROOM: usize = 8192;
@@ -34,10 +36,13 @@ fn push_participant<const N: usize>(page: &mut Page<N>, measure: Measure, partic
     ensures { page.new.items ≡ page.old.items ++ participant_line measure participant }
 {
     push_measure(page, measure);
-    push_numbers(
+    push_line(
         page,
-        &[participant.code, participant.fails, participant.total],
-        b'\n',
+        &[
+            Some(participant.code),
+            Some(participant.fails),
+            Some(participant.total),
+        ],
     );
 }
 
@@ -71,38 +76,23 @@ fn push_both<const N: usize>(page: &mut Page<N>, book: &Book, run: Run)
     push_highest(page, book, run, Measure::Value);
 }
 
-/// The names line, and both lists over a run of days, or that it is refused.
-fn push_run<const N: usize>(page: &mut Page<N>, book: &Book, first: u64, last: u64)
-    requires { length page.old.items + length (lists_over first last book.now) ≤ N }
-    ensures { page.new.items ≡ page.old.items ++ lists_over first last book.now }
+/// The names line, and both lists over the run of days that is asked for, or that it is refused.
+#[tactic(auto, using(crate::proofs::Answered::refused_short))]
+fn push_lists(page: &mut Page<LIST_ROOM>, book: &Book, days: Days)
+    requires { page.old.items ≡ [] }
+    ensures { page.new.items ≡ over_days list_names both_lists days book.now }
 {
-    push(page, b"measure,code,fails,total\n");
-    match Run::of(book, first, last) {
-        Ok(run) => push_both(page, book, run),
-        Err(refusal) => push_refused(page, refusal),
+    if let Some(run) = run_or_refused(page, b"measure,code,fails,total\n", book, days) {
+        push_both(page, book, run);
     }
 }
 
-/// The lists of a file that was replayed.
-// As `push_reports` but for the text.
-#[tactic(auto, using(crate::proofs::Listed::lists_short))]
-fn push_lists(page: &mut Page<LIST_ROOM>, replayed: &Replayed, days: Days)
-    requires { page.old.items ≡ [] }
-    ensures { page.new.items ≡ lists_of days replayed.now }
-{
-    let (first, last) = days.run(replayed.book.today);
-    push_run(page, &replayed.book, first, last);
-}
-
 /// The lists of a file.
-// As `write_table` but for the text.
 pub fn write_lists(file: &[u8], days: Days, page: &mut Page<LIST_ROOM>)
-    ensures { IsTextOf (lists days) file.now page.new.items }
+    ensures { IsTextOf (lists_text days) file.now page.new.items }
 {
-    page.clear();
     let mut replayed = Replayed::fresh();
-    match replayed.replay(file) {
-        Ok(()) => push_lists(page, &replayed, days),
-        Err(_) => push(page, FAULT),
+    if let Ok(()) = or_fault(page, replayed.replay(file)) {
+        push_lists(page, &replayed.book, days);
     }
 }

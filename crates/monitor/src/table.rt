@@ -1,15 +1,17 @@
 //! The table of a call file: a line for each closed day.
 
-ghost use Rattle.std.specs.Prelude.{◌≡◌, ◌+◌, ◌≤◌, ◌++◌, length};
+ghost use Rattle.std.specs.Prelude.{◌≡◌, ◌+◌, ◌≤◌, ◌++◌, [], length};
 ghost use Rattle.std.specs.List.{flat_map};
+ghost use Rattle.monitor.specs.declared.table.TheConstants.{TABLE_ROOM};
 ghost use Rattle.monitor.specs.Texts.{IsTextOf};
-ghost use Rattle.monitor.specs.Table.{day_line, closed_days, counts, table_of, table};
+ghost use Rattle.monitor.specs.Table.{day_line, closed_days, counts_text, table_of, table_text};
 
-use crate::page::{FAULT, Page, push, push_numbers};
+use crate::refused::or_fault;
 use crate::replay::Replayed;
 use crate::row_text::push_row;
 use book::book::Book;
 use book::limits::DAYS;
+use texts::page::{Page, push, push_line};
 
 /// As many bytes as a table may take.
 pub const TABLE_ROOM: usize = 8192;
@@ -25,6 +27,7 @@ fn push_day<const N: usize>(page: &mut Page<N>, book: &Book, day: u64)
 }
 
 /// A line for each closed day.
+#[tactic(auto, using(crate::proofs::Joined::numbers_more))]
 fn push_days<const N: usize>(page: &mut Page<N>, book: &Book)
     requires { length page.old.items + length (flat_map (day_line book.now) (closed_days book.now)) ≤ N }
     ensures { page.new.items ≡ page.old.items ++ flat_map (day_line book.now) (closed_days book.now) }
@@ -37,17 +40,19 @@ fn push_days<const N: usize>(page: &mut Page<N>, book: &Book)
 /// Accepted and refused counts.
 #[tactic(auto, using(crate::proofs::Joined::two_parts))]
 fn push_counts<const N: usize>(page: &mut Page<N>, accepted: u64, refused: u64)
-    requires { length page.old.items + length (counts accepted refused) ≤ N }
-    ensures { page.new.items ≡ page.old.items ++ counts accepted refused }
+    requires { length page.old.items + length (counts_text accepted refused) ≤ N }
+    ensures { page.new.items ≡ page.old.items ++ counts_text accepted refused }
 {
     push(page, b"accepted,refused\n");
-    push_numbers(page, &[accepted, refused], b'\n');
+    push_line(page, &[Some(accepted), Some(refused)]);
 }
 
 /// The table of a file that was replayed.
-fn push_table<const N: usize>(page: &mut Page<N>, replayed: &Replayed)
-    requires { length page.old.items + length (table_of replayed.now) ≤ N }
-    ensures { page.new.items ≡ page.old.items ++ table_of replayed.now }
+#[tactic(auto, using(crate::proofs::Joined::three_parts), unfolding(crate::specs::Table::table_of))]
+fn push_table(page: &mut Page<TABLE_ROOM>, replayed: &Replayed)
+    requires empty { page.old.items ≡ [] }
+    requires short { length (table_of replayed.now) ≤ TABLE_ROOM }
+    ensures { page.new.items ≡ table_of replayed.now }
 {
     push(
         page,
@@ -58,14 +63,11 @@ fn push_table<const N: usize>(page: &mut Page<N>, replayed: &Replayed)
 }
 
 /// The table of a file.
-// `write_reports`, `write_lists` and `write_answers` are alike but for the text that they write: one body for all is no plainer.
 pub fn write_table(file: &[u8], page: &mut Page<TABLE_ROOM>)
-    ensures { IsTextOf table file.now page.new.items }
+    ensures { IsTextOf table_text file.now page.new.items }
 {
-    page.clear();
     let mut replayed = Replayed::fresh();
-    match replayed.replay(file) {
-        Ok(()) => push_table(page, &replayed),
-        Err(_) => push(page, FAULT),
+    if let Ok(()) = or_fault(page, replayed.replay(file)) {
+        push_table(page, &replayed);
     }
 }

@@ -8,20 +8,13 @@ use Rattle.book.specs.declared.book.Book.{Book}
 use Rattle.book.specs.declared.calls.Refusal.{Refusal}
 use Rattle.book.specs.declared.calls.Refusal.TheVariants.{NotClosed}
 use Rattle.book.specs.declared.figures.Summary.{Summary}
-use Rattle.history.specs.Sums as history
-use Rattle.history.specs.Sums.{in_measure}
-use Rattle.counted.specs.Counted.{summary_at}
+use Rattle.book.specs.Rows.{summary_at}
 use Rattle.reports.specs.Sums.{days, figure_over}
 use Rattle.reports.specs.Reports.{is_run}
 use Rattle.ranking.specs.declared.participant.Participant.{Participant}
-use Rattle.ranking.specs.declared.runs.Measure.{Measure}
-use Rattle.ranking.specs.declared.runs.Measure.TheVariants.{Number, Value}
+use Rattle.book.specs.declared.figures.Measure.{Measure}
+use Rattle.book.specs.Figures.{in_measure}
 use Rattle.ranking.specs.Ranking.{highest}
-
--- the measure that the code's stands for
-abbrev pub measure_of : Measure → history.Measure
-measure_of Number = history.number
-measure_of Value = history.value
 
 -- the sums of summaries
 unfoldable pub summaries_over : List Summary → Summary
@@ -34,7 +27,7 @@ summaries_over summaries = record {
 abbrev pub participant_of : ℕ → ℕ → Measure → Book → ℕ → Participant
 participant_of first last m b code =
     let sums = summaries_over (map (λ day. summary_at b.summaries day code) (days first last)) in
-    record { code = code; fails = in_measure (measure_of m) sums.fails; total = in_measure (measure_of m) sums.total }
+    record { code = code; fails = in_measure m sums.fails; total = in_measure m sums.total }
 
 -- those with codes 1 to 40
 unfoldable pub participants_of : ℕ → ℕ → Measure → Book → List Participant

@@ -1,76 +1,59 @@
 //! The participants over a run of days, and the list of the highest rates among them. docs/RULES.md, 'Highest fail rates'.
-ghost use Rattle.std.specs.Prelude.{◌≡◌, ◌≤◌, map};
+ghost use Rattle.std.specs.Prelude.{◌≡◌, true, map, Ok};
 ghost use Rattle.book.specs.Limits.{largest_code};
-ghost use Rattle.history.specs.Sums.{in_measure};
-ghost use Rattle.counted.specs.Counted.{summary_at};
+ghost use Rattle.book.specs.Pairs.{is_within};
+ghost use Rattle.book.specs.Rows.{is_closed, summary_at};
 ghost use Rattle.reports.specs.Sums.{days};
-ghost use Rattle.ranking.specs.Runs.{measure_of, summaries_over, participant_of, participants_of, list_answer};
+ghost use Rattle.ranking.specs.Runs.{summaries_over, participant_of, participants_of, list_answer};
 
 use crate::participant::Participant;
 use crate::ranks::{List, PARTICIPANTS, highest};
 use book::book::Book;
 use book::calls::Refusal;
-use book::figures::{Figure, Summary, summary_place};
-use book::limits::SUMMARIES;
+use book::figures::{Measure, Summary};
 use reports::run::Run;
 
-/// What is compared of fails and totals.
-#[derive(Clone, Copy, Debug, PartialEq, Eq)]
-pub enum Measure {
-    /// So many SIs.
-    Number,
-    /// Cents.
-    Value,
-}
-
-impl Measure {
-    /// A figure in this measure.
-    fn of(self, figure: Figure) -> u64
-        ensures { result ≡ in_measure (measure_of self) figure }
-    {
-        match self {
-            Measure::Number => figure.number,
-            Measure::Value => figure.value,
-        }
-    }
-}
-
-/// The summaries of a participant, 1 to 40, over a run of days, added up.
-fn sums(summaries: &[Summary; SUMMARIES], run: Run, code: u8) -> Summary
-    requires low { 1 ≤ code }
-    requires high { code ≤ largest_code }
-    ensures { result ≡ summaries_over (map (λ day. summary_at summaries.now day code) (days run.first run.last)) }
+/// The summaries of a participant over a run of closed days, added up. Each of them is given.
+fn sums(book: &Book, run: Run, code: u64) -> Result<Summary, Refusal>
+    requires closed { is_closed run.last book.now ≡ true }
+    requires code { is_within 1 largest_code code ≡ true }
+    ensures { result ≡ Ok (summaries_over (map (λ day. summary_at book.now.summaries day code) (days run.first run.last))) }
 {
-    let mut sums = Summary::NONE;
+    let mut sums = Summary::default();
     for day in run.first..run.last + 1 {
-        sums = sums.saturating_add(summaries[summary_place(day, u64::from(code))]);
+        sums = sums.saturating_add(book.summary(day, code)?);
     }
-    sums
+    Ok(sums)
 }
 
-/// The participant of that code over a run of days.
-fn participant(book: &Book, run: Run, measure: Measure, code: u8) -> Participant
-    requires low { 1 ≤ code }
-    requires high { code ≤ largest_code }
-    ensures { result ≡ participant_of run.first run.last measure book.now code }
+/// The participant of that code over a run of closed days.
+fn participant(book: &Book, run: Run, measure: Measure, code: u64) -> Result<Participant, Refusal>
+    requires closed { is_closed run.last book.now ≡ true }
+    requires code { is_within 1 largest_code code ≡ true }
+    ensures { result ≡ Ok (participant_of run.first run.last measure book.now code) }
 {
-    let Summary { total, fails } = sums(&book.summaries, run, code);
-    Participant {
-        code: u64::from(code),
-        fails: measure.of(fails),
-        total: measure.of(total),
-    }
+    let Summary { total, fails } = sums(book, run, code)?;
+    Ok(Participant {
+        code,
+        fails: fails.in_measure(measure),
+        total: total.in_measure(measure),
+    })
 }
 
 /// All of them.
-fn participants(book: &Book, run: Run, measure: Measure) -> [Participant; PARTICIPANTS]
-    ensures { result ≡ participants_of run.first run.last measure book.now }
+fn participants(
+    book: &Book,
+    run: Run,
+    measure: Measure,
+) -> Result<[Participant; PARTICIPANTS], Refusal>
+    requires { is_closed run.last book.now ≡ true }
+    ensures { result ≡ Ok (participants_of run.first run.last measure book.now) }
 {
     let mut all = [Participant::default(); PARTICIPANTS];
     for place in 0..PARTICIPANTS {
-        all[place] = participant(book, run, measure, place as u8 + 1);
+        all[place] = participant(book, run, measure, place as u64 + 1)?;
     }
-    all
+    Ok(all)
 }
 
 /// The ten participants with the highest fail rates, and everyone level with the tenth, from the first to the last day, both
@@ -79,5 +62,5 @@ pub fn highest_rates(book: &Book, first: u64, last: u64, measure: Measure) -> Re
     ensures { result ≡ list_answer first last measure book.now }
 {
     let run = Run::of(book, first, last)?;
-    Ok(highest(&participants(book, run, measure)))
+    Ok(highest(&participants(book, run, measure)?))
 }

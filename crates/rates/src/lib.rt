@@ -44,13 +44,6 @@ pub fn is_higher(fails: u64, total: u64, other_fails: u64, other_total: u64) -> 
     u128::from(other_fails) * u128::from(total) < u128::from(fails) * u128::from(other_total)
 }
 
-/// A sum as it is stored.
-pub fn capped_sum(a: u64, b: u64) -> u64
-    ensures { result ≡ capped (a + b) }
-{
-    a.saturating_add(b)
-}
-
 /// The worked examples are what the definitions give.
 pub fn worked_examples()
     ensures { AllByRecursion Claim examples }

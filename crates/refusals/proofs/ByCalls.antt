@@ -1,18 +1,11 @@
 -- The same from the accepted calls alone.
-use Rattle.std.proofs.Common.{◌≡◌, ℕ, List, [], ◌∷◌, length, filter, Ok, refl, ap, ◌∙◌, sym, subst, arith}
-use Rattle.book.specs.declared.calls.Call.{Call}
-use Rattle.book.specs.declared.calls.Call.TheVariants.{Enter}
-use Rattle.book.specs.declared.pairs.Pair.{Pair}
-use Rattle.book.specs.declared.book.Book.{Book}
-use Rattle.book.specs.Answers.{answer_to, has_id, pair_of}
-use Rattle.book.specs.Book.{accepted_after}
-use Rattle.history.specs.History.{entries, book_of, history_of}
-use Rattle.history.specs.Sums.{sum_of}
+use Rattle.history.proofs.Words.{◌≡◌, ℕ, List, [], ◌∷◌, length, filter, Ok, refl, ap, ◌∙◌, sym, subst, arith, Call, Enter, Pair}
+use Rattle.history.proofs.Words.{Book, answer_to, has_id, pair_of, accepted_after, entries, book_of, history_of, sum_of}
 use Rattle.history.proofs.Accepted.{accepts}
 use Rattle.counted.specs.PairCalls.{open_of}
-use Rattle.counted.proofs.Counts.{every_pair}
+use Rattle.counted.proofs.Counts.{Known, every_pair}
 use Rattle.counted.proofs.Calls.{from_pairs}
-use Rattle.counted.proofs.Whole.{Known, known, every_list}
+use Rattle.counted.proofs.Whole.{known, every_list}
 use Rattle.refusals.specs.Table.{view_of, view_of_calls, highest_id, applies, IsLowest, LowestByTheCalls}
 use Rattle.refusals.proofs.Table.{lowest}
 
@@ -37,7 +30,7 @@ length_sum (p ∷ ps) = let e = length_sum ps in omega arith
 count : (h : List Call) (b : Book) → Known h b → length b.pairs.items ≡ sum_of (λ e. length (open_of e.id h)) (entries h)
 count h b k =
     length_sum b.pairs.items
-    ∙ from_pairs (λ p. 1) every_pair h b k.kept k.counts
+    ∙ from_pairs h b k (λ p. 1) every_pair
     ∙ (λ i. sum_of (λ e. sym (length_sum (open_of e.id h)) i) (entries h))
 
 -- the open pair of an id
@@ -47,7 +40,7 @@ find-filter id (p ∷ ps) = grind (arith, find-filter id ps)
 
 -- so the two views are one, part by part
 same : (calls : List Call) → view_of (book_of calls) ≡ view_of_calls (history_of calls)
-same calls = λ i. record { today = k.kept.agrees.day i; highest = highest calls i; count = count h b k i; pair = λ id. pair id i }
+same calls = λ i. record { today = k.kept.day i; highest = highest calls i; count = count h b k i; pair = λ id. pair id i }
   where
     h : List Call
     h = history_of calls

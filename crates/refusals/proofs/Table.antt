@@ -1,17 +1,15 @@
 -- The answers are the table's: the first of the numbers that applies comes back, and it is the lowest.
-use Rattle.std.proofs.Common.{◌≡◌, ◌<◌, [], ◌∷◌, map, arith, Bool, true, false, Ok, Err, refl, ◌∙◌}
-use Rattle.book.specs.declared.book.Book.{Book}
-use Rattle.book.specs.declared.calls.Call.{Call}
-use Rattle.book.specs.declared.calls.Call.TheVariants.{Enter}
+use Rattle.history.proofs.Words.{List, ◌≡◌, ◌<◌, [], ◌∷◌, map, arith, Bool, true, false, Ok, Err, refl, ◌∙◌, Book, Call, Enter}
+use Rattle.history.proofs.Words.{answer_to, Answer, Finished, OutOfRange, IdSpent, BookFull, NotOpen, NotDue, OnHold, WrongPart, lowest_of}
+use Rattle.history.proofs.Words.{refused_if, refusal_number}
 use Rattle.book.specs.declared.calls.Refusal.{Refusal}
-use Rattle.book.specs.declared.calls.Refusal.TheVariants.{Finished, OutOfRange, IdSpent, BookFull, NotOpen, NotDue, OnHold, WrongPart}
-use Rattle.book.specs.Answers.{answer_to, lowest_of, refused_if}
-use Rattle.book.specs.Calls.{refusal_number, Answer}
 use Rattle.refusals.specs.Table.{view_of, applies, IsLowest, LowestIsOne, LowestIsReturned, NumbersTellApart}
 
 -- the first of the numbers of calls that passes a test
 abbrev first_passing : (Refusal → Bool) → Answer
-first_passing test = lowest_of (map (λ r. refused_if (test r) r) (Finished ∷ OutOfRange ∷ IdSpent ∷ BookFull ∷ NotOpen ∷ NotDue ∷ OnHold ∷ WrongPart ∷ []))
+first_passing test =
+    let numbers : List Refusal = Finished ∷ OutOfRange ∷ IdSpent ∷ BookFull ∷ NotOpen ∷ NotDue ∷ OnHold ∷ WrongPart ∷ [] in
+    lowest_of (map (λ r. refused_if (test r) r) numbers)
 
 -- it is the lowest
 first_is_lowest : (test : Refusal → Bool) (r : Refusal) → first_passing test ≡ Err r

@@ -2,4 +2,3 @@ pub mod Sums
 pub mod Reports
 pub mod Nine
 pub mod OfRows
-pub mod Examples

@@ -1,5 +1,5 @@
 -- The reports of all nine categories in one call. docs/RULES.md, 'A report' and 'Numbers given back'.
-use Rattle.std.specs.Prelude.{◌≡◌, ℕ, ◌+◌, ◌-◌, ◌≤◌, List, map, slice_index_or, None, Result, Ok, Err, if◌then◌else◌, All}
+use Rattle.std.specs.Prelude.{◌≡◌, ℕ, ◌+◌, ◌-◌, ◌≤◌, false, List, map, slice_index_or, None, Result, Ok, Err, if◌then◌else◌, All}
 use Rattle.std.specs.List.{range_with_len}
 use Rattle.book.specs.Limits.{category_count}
 use Rattle.book.specs.declared.book.Book.{Book}
@@ -37,3 +37,10 @@ NineAreSingle =
 abbrev pub NineCarryOne : Type 0
 NineCarryOne =
     (b : Book) (first last : ℕ) → All (λ (r : NumberedReport). r.answer ≡ (if is_run first last b then Ok tt else Err NotClosed)) (nine_answer first last b)
+
+-- Where the run is refused, each of the nine has no figures: every one is 0, and the duration is absent.
+abbrev pub RefusedAreEmpty : Type 0
+RefusedAreEmpty =
+    (b : Book) (first last : ℕ) → is_run first last b ≡ false
+    → All (λ (r : NumberedReport). (r.report.sums ≡ no_row) × (r.report.rate_by_number ≡ 0) × (r.report.rate_by_value ≡ 0) × (r.report.duration ≡ None))
+    (nine_answer first last b)

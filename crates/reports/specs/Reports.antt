@@ -9,7 +9,8 @@ use Rattle.book.specs.declared.rows.Row.{Row}
 use Rattle.book.specs.Limits.{category_count}
 use Rattle.book.specs.Rules.{rule, first_of}
 use Rattle.book.specs.Figures.{add_figure}
-use Rattle.book.specs.Rows.{row_of, figures_of, is_closed}
+use Rattle.book.specs.Rows.{is_closed}
+use Rattle.counted.specs.Counted.{row_at}
 use Rattle.reports.specs.declared.report.Report.{Report}
 use Rattle.reports.specs.Sums.{days, sums_of}
 
@@ -25,13 +26,9 @@ report_of sums =
       duration = option_map capped (duration fails.value sums.isd_value);
     }
 
--- the row of a day and a category, 0 for all nine together, of any book
-abbrev pub row_on : ℕ → Book → ℕ → Row
-row_on category b day = row_of (figures_of b.cells day category)
-
--- those of a run of days
+-- the rows of a run of days and a category, 0 for all nine together, of any book
 abbrev pub rows_of : ℕ → ℕ → ℕ → Book → List Row
-rows_of first last category b = map (row_on category b) (days first last)
+rows_of first last category b = map (λ day. row_at b day category) (days first last)
 
 -- from first to last closed day
 abbrev pub is_run : ℕ → ℕ → Book → Bool

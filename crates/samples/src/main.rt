@@ -4,7 +4,7 @@
 #![tactic(auto)]
 
 use anyhow::Result;
-use console::texts::{Text, write_text_of};
+use console::text::{Text, write_text_of};
 use monitor::days::Days;
 use std::rt::Files;
 use std::{env, fs};

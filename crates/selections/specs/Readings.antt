@@ -4,7 +4,9 @@ use Rattle.std.specs.Prelude.{ℕ, ◌-◌, not, ◌&&◌, ◌==◌, nat_le, nat
 use Rattle.book.specs.declared.calls.Call.{Call}
 use Rattle.book.specs.declared.pairs.Entry.{Entry}
 use Rattle.history.specs.History.{is_close, day_of, parts, settled_on, cancels, cancelled_on, cancelled_before}
-use Rattle.history.specs.Sums.{Measure, number, value, of_two}
+use Rattle.book.specs.declared.figures.Measure.{Measure}
+use Rattle.book.specs.declared.figures.Measure.TheVariants.{Number, Value}
+use Rattle.history.specs.Sums.{of_two}
 
 -- Its rest at a call is its amount less the parts that settled before that call: here at a call that follows h.
 abbrev pub rest_of : Entry → List Call → ℕ
@@ -30,5 +32,5 @@ cancelled_of m d h e = if nat_le e.isd d && cancelled_on e.id d h then of_two m 
 
 -- Part-settled: the pair with a settle on that day and a rest above 0 at its close, 2 SIs, in number alone.
 abbrev pub part_settled_of : Measure → ℕ → List Call → Entry → ℕ
-part_settled_of number d h e = if settled_on e.id d h && nat_lt 0 (rest_at_close e d h) then 2 else 0
-part_settled_of value d h e = 0
+part_settled_of Number d h e = if settled_on e.id d h && nat_lt 0 (rest_at_close e d h) then 2 else 0
+part_settled_of Value d h e = 0

@@ -4,7 +4,8 @@ use Rattle.std.specs.Prelude.{◌≡◌, ℕ, zero, suc, ◌+◌, Bool, true, Li
 use Rattle.book.specs.declared.calls.Call.{Call}
 use Rattle.book.specs.declared.pairs.Entry.{Entry}
 use Rattle.history.specs.History.{closed, history_of}
-use Rattle.history.specs.Sums.{Measure, over_pairs}
+use Rattle.book.specs.declared.figures.Measure.{Measure}
+use Rattle.history.specs.Sums.{over_pairs}
 use Rattle.counted.specs.PairCalls.{settled, fails, counted}
 use Rattle.selections.specs.Readings.{due_of, cancelled_of, part_settled_of}
 

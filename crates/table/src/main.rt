@@ -2,7 +2,7 @@
 #![tactic(auto)]
 
 use console::run;
-use console::texts::Text;
+use console::text::Text;
 
 fn main(rt: HostRuntime) {
     run(&rt, Text::Table);

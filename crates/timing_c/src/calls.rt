@@ -2,7 +2,6 @@
 ghost use Rattle.std.specs.Prelude.{◌≡◌, ◌<◌, ◌≤◌};
 ghost use Rattle.book.specs.Limits.{open_limit, largest_id};
 
-use arrayvec::ArrayVec;
 use book::book::{Book, Outcome};
 use book::calls::{Answer, Call};
 use book::limits::{DAYS, LARGEST_CODE, OPEN_LIMIT};
@@ -98,21 +97,6 @@ fn closed_in_place(mut book: Book) -> u64 {
     securities_on(&book, DAYS - 1)
 }
 
-/// Another book with the same pairs and figures. `clone` may fail, as it does for a type that has a heap.
-fn copied(book: &Book) -> Book {
-    let mut pairs = ArrayVec::new();
-    for pair in book.pairs.iter() {
-        let _ = pairs.try_push(*pair);
-    }
-    Book {
-        pairs,
-        cells: book.cells,
-        summaries: book.summaries,
-        today: book.today,
-        last_id: book.last_id,
-    }
-}
-
 /// 64 closes of a book, so many times over: what failed on the last day.
 fn closes_of<F: Fn(Book) -> u64>(times: u64, start: &Book, closed: F) -> u64
     requires { F.IsAlwaysCallable closed }
@@ -120,7 +104,7 @@ fn closes_of<F: Fn(Book) -> u64>(times: u64, start: &Book, closed: F) -> u64
 {
     let mut last = 0;
     for _ in 0..times {
-        last = closed(copied(start));
+        last = closed(start.copied());
     }
     last
 }

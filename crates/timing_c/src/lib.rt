@@ -2,5 +2,5 @@
 #![tactic(auto)]
 
 pub mod calls;
+pub mod file_texts;
 pub mod lines_read;
-pub mod texts;

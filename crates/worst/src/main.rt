@@ -5,7 +5,7 @@
 use console::arguments::asked_days;
 use console::problem::Problem;
 use console::run;
-use console::texts::Text;
+use console::text::Text;
 
 fn main(rt: HostRuntime) {
     match asked_days(&rt) {

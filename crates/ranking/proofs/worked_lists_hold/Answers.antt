@@ -1,7 +1,6 @@
 use Rattle.ranking.specs.Ranking.{stands_before, highest}
-use Rattle.ranking.specs.Runs.{summaries_over, participants_of}
 use Rattle.ranking.proofs.worked_lists_hold.Goals as goal
 
 pub returns : goal.returns
-unfolding stands_before highest summaries_over participants_of
+unfolding stands_before highest
 returns c = assumption

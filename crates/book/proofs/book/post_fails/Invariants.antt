@@ -9,5 +9,6 @@ abbrev pub invariant-loop-pair : goal.invariant-loop-pair
 invariant-loop-pair l =
     record {
       cells : fold post l.cells (fails_of l.today (drop l.pair-index l.pairs)) ≡ fold post l.fn.cells (fails_of l.today l.pairs);
-      summaries : fold post_summary l.summaries (fails_of l.today (drop l.pair-index l.pairs)) ≡ fold post_summary l.fn.summaries (fails_of l.today l.pairs);
+      summaries : fold post_summary l.summaries (fails_of l.today (drop l.pair-index l.pairs)) ≡ fold post_summary l.fn.summaries
+          (fails_of l.today l.pairs);
     }

@@ -2,8 +2,4 @@ use Rattle.monitor.proofs.Answered.{Writes}
 use Rattle.monitor.proofs.answers.push_answers.Given as goal
 
 abbrev pub invariant-loop-number : goal.invariant-loop-number
-invariant-loop-number l = record {
-  can_next : (goal.iterator-loop-number).can_next l.number-iterator;
-  is_finite : (goal.iterator-loop-number).is_finite l.number-iterator;
-  writes : Writes l.fn.lines.text.now l.number-iterator.b l.book l.number-iterator.a.start l.page.items;
-}
+invariant-loop-number l = Writes l.fn.lines.text.now l.number-iterator.b l.book l.number-iterator.a.start l.page.items

@@ -1,6 +1,4 @@
-use Rattle.std.proofs.Common.{◌≡◌, ◌++◌, take}
-use Rattle.std.specs.List.{flat_map}
-use Rattle.monitor.specs.ListTable.{participant_line}
+use Rattle.monitor.proofs.Words.{◌≡◌, ◌++◌, take, flat_map, participant_line}
 use Rattle.monitor.proofs.list_table.push_list.Given as goal
 
 abbrev pub invariant-loop-participant : goal.invariant-loop-participant

@@ -1,6 +1,4 @@
-use Rattle.std.proofs.Common.{◌≡◌, ◌++◌}
-use Rattle.std.specs.List.{range_with_len, flat_map}
-use Rattle.monitor.specs.Table.{day_line}
+use Rattle.monitor.proofs.Words.{◌≡◌, ◌++◌, range_with_len, flat_map, day_line}
 use Rattle.monitor.proofs.table.push_days.Given as goal
 
 abbrev pub invariant-loop-day : goal.invariant-loop-day

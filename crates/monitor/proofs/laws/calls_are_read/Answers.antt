@@ -1,5 +1,0 @@
-use Rattle.monitor.proofs.Bounds.{files_are_read, calls_are_read}
-use Rattle.monitor.proofs.laws.calls_are_read.Goals as goal
-
-pub returns : goal.returns
-returns c = record { lines = files_are_read; calls = calls_are_read }

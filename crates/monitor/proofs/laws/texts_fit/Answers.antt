@@ -1,5 +1,0 @@
-use Rattle.monitor.proofs.Bounds.{tables_fit, reports_fit, lists_fit, answers_fit}
-use Rattle.monitor.proofs.laws.texts_fit.Goals as goal
-
-pub returns : goal.returns
-returns c = record { tables = tables_fit; reports = reports_fit; lists = lists_fit; answers = answers_fit }

@@ -1,8 +1,0 @@
-use Rattle.std.proofs.Common.{refl}
-use Rattle.reports.specs.Sums.{sums_of}
-use Rattle.reports.specs.Nine.{one_of_nine}
-use Rattle.reports.proofs.examples_hold.Goals as goal
-
-pub returns : goal.returns
-unfolding sums_of one_of_nine
-returns c = record { example = refl; worked = refl; nine = refl; refused_nine = refl }

@@ -1,0 +1,4 @@
+pub mod Edges
+pub mod FiveDays
+pub mod Reports
+pub mod Lists
