@@ -28,6 +28,7 @@ extern "C" {
     fn replaces_in_place(times: u64) -> u64;
     fn replaces_first_in_place(times: u64) -> u64;
     fn reads(times: u64) -> u64;
+    fn largest_room() -> usize;
     fn table_of(text: *const u8, length: usize, buffer: *mut [u8; ROOM]) -> usize;
     fn lists_of(text: *const u8, length: usize, buffer: *mut [u8; ROOM]) -> usize;
 }
@@ -74,6 +75,7 @@ fn print_line(name: &str, calls_each: u64, times: u64, proved: impl Fn(u64) -> u
 fn main() {
     let path = std::env::args().nth(1).expect("a call file");
     let file = std::fs::read(path).expect("a call file");
+    assert!(unsafe { largest_room() } <= ROOM, "a text has room in its buffer");
     assert_eq!(proved(table_of, &file), rust_table(&file), "both write the same table");
     assert_eq!(proved(lists_of, &file), rust_lists(&file), "both write the same lists");
     println!("{:<38}{:>12}{:>12}{:>8}{:>11}", "", "proved", "Rust", "ratio", "stack");

@@ -1,4 +1,4 @@
-//! Lines of all six calls, many of them wrong: in each field, used or not, and in each byte.
+//! Lines of all calls, many of them wrong: in each field, used or not, and in each byte.
 
 use super::damage::damage_byte;
 use super::random::Random;

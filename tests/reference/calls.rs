@@ -1,4 +1,4 @@
-//! The six calls and their values. docs/RULES.md, 'The pair' and 'The six calls'.
+//! The calls and their values. docs/RULES.md, 'The pair' and 'The calls'.
 
 /// What an enter gives.
 #[derive(Clone, Copy)]

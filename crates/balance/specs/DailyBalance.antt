@@ -35,13 +35,13 @@ ClosedDaysAreGiven =
     → rows_of (book_of calls) d c ≡ (if closed d (history_of calls) then Ok (row_at (book_of calls) d c) else Err NotClosed)
 
 -- securities and cash fails together
-abbrev pub fails_of : Measure → Row → ℕ
-fails_of m row = in_measure m row.securities + in_measure m row.cash
+abbrev pub fails_together : Measure → Row → ℕ
+fails_together m row = in_measure m row.securities + in_measure m row.cash
 
 -- The previous day's fails are those of the row given for the day before, same category; before day 0 there are none.
 abbrev pub ArePrevious : Measure → ℕ → ℕ → Rows → ℕ → Type 0
 ArePrevious m c zero rows n = n ≡ 0
-ArePrevious m c (suc d) rows n = (row : Row) × (rows d c ≡ Ok row) × (fails_of m row ≡ n)
+ArePrevious m c (suc d) rows n = (row : Row) × (rows d c ≡ Ok row) × (fails_together m row ≡ n)
 
 -- ---- the readings of the calls h, over the pairs that the category counts
 
@@ -66,7 +66,7 @@ pub record Balances (m : Measure) (c d : ℕ) (h : List Call) (rows : Rows) : Ty
   pub given : rows d c ≡ Ok row
   pub previous : ℕ
   pub are_previous : ArePrevious m c d rows previous
-  pub balance : in_measure m row.settled + fails_of m row + cancelled m c d h ≡ previous + newly_due m c d h + part_settled m c d h
+  pub balance : in_measure m row.settled + fails_together m row + cancelled m c d h ≡ previous + newly_due m c d h + part_settled m c d h
 
 -- on each closed day and for each category, 0 to 9
 abbrev pub RowsBalance : List Call → Rows → Type 0

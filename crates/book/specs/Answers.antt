@@ -1,4 +1,4 @@
--- What comes back from each of the six calls. docs/RULES.md, 'Numbers given back'.
+-- What comes back from each call. docs/RULES.md, 'Numbers given back'.
 use Rattle.std.specs.Prelude.{ℕ, Bool, true, false, not, ◌||◌, nat_le, nat_lt, ◌==◌, List, [], ◌∷◌, length, Option, None, Some, Ok, Err}
 use Rattle.std.specs.List.{find}
 use Rattle.book.specs.Limits.{day_limit, open_limit}

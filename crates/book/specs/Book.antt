@@ -1,4 +1,4 @@
--- What a book holds after a call, and after a list of calls. docs/RULES.md, 'The six calls'.
+-- What a book holds after a call, and after a list of calls. docs/RULES.md, 'The calls'.
 use Rattle.std.specs.Prelude.{ℕ, ◌+◌, ◌==◌, List, [], ◌∷◌, ◌++◌, if◌then◌else◌, replicate, is_ok}
 use Rattle.std.specs.List.{fold}
 use Rattle.book.specs.Limits.{cell_count, summary_count}
@@ -10,6 +10,23 @@ use Rattle.book.specs.Answers.{has_id, answer_to}
 use Rattle.book.specs.Postings.{postings}
 pub use Rattle.book.specs.declared.book.Book.{Book}
 
+-- ---- a call on an open pair
+
+-- the id that it names
+abbrev pub on_id : Call → ℕ
+on_id (Hold id side on) = id
+on_id (Lack id lack) = id
+on_id (Settle id part) = id
+on_id (Cancel id) = id
+on_id _ = 0
+
+-- What becomes of the pair: itself changed, or nothing, as of a cancelled one. Enter and close are on none.
+abbrev pub becomes : Call → ℕ → Pair → List Pair
+becomes (Hold id side on) today p = with_hold (side_of side) (on == 1) p ∷ []
+becomes (Lack id lack) today p = with_lack (lack_of lack) p ∷ []
+becomes (Settle id part) today p = while_open (with_part today part p)
+becomes _ today p = []
+
 -- ---- after an accepted call
 
 -- the pairs, with what becomes of the first of that id in its place
@@ -20,11 +37,8 @@ changed id becomes (p ∷ ps) = if has_id id p then becomes p ++ ps else p ∷ c
 -- the open pairs, in the order of entering
 abbrev pub pairs_after : Call → Book → List Pair
 pairs_after (Enter e) b = b.pairs.items ++ entered e ∷ []
-pairs_after (Hold id side on) b = changed id (λ p. with_hold (side_of side) (on == 1) p ∷ []) b.pairs.items
-pairs_after (Lack id lack) b = changed id (λ p. with_lack (lack_of lack) p ∷ []) b.pairs.items
-pairs_after (Settle id part) b = changed id (λ p. while_open (with_part b.today part p)) b.pairs.items
-pairs_after (Cancel id) b = changed id (λ p. []) b.pairs.items
 pairs_after Close b = b.pairs.items
+pairs_after call b = changed (on_id call) (becomes call b.today) b.pairs.items
 
 -- Close: today rises by one.
 abbrev pub today_after : Call → ℕ → ℕ

@@ -1,4 +1,4 @@
--- The six calls, and the numbers of refusals. docs/RULES.md, 'The six calls' and 'Numbers given back'.
+-- The calls, and the numbers of refusals. docs/RULES.md, 'The calls' and 'Numbers given back'.
 use Rattle.std.specs.Prelude.{ℕ, Result, Ok, Err}
 pub use Rattle.book.specs.declared.calls.Call.{Call}
 pub use Rattle.book.specs.declared.calls.Refusal.{Refusal}

@@ -1,4 +1,4 @@
--- What an accepted call adds to the figures: postings. docs/RULES.md, 'The six calls'.
+-- What an accepted call adds to the figures: postings. docs/RULES.md, 'The calls'.
 use Rattle.std.specs.Prelude.{ℕ, ◌-◌, Bool, true, not, nat_le, ◌==◌, List, [], map, filter, Option, None, Some}
 use Rattle.std.specs.List.{range_with_len}
 use Rattle.std.specs.Option.{option_to_list}

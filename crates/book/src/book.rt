@@ -1,13 +1,13 @@
-//! The book, and the six calls: docs/RULES.md, 'The six calls'.
-ghost use Rattle.std.specs.Prelude.{◌≡◌, ◌<◌, [], ◌∷◌, None, MatchResult};
+//! The book, and the calls: docs/RULES.md, 'The calls'.
+ghost use Rattle.std.specs.Prelude.{◌≡◌, ◌<◌, [], ◌∷◌, None, Ok, Err, IfOk, IfErr, MatchResult};
 ghost use Rattle.std.specs.List.{fold, position};
 ghost use Rattle.arrayvec.specs.ArrayVec.{array_vec_len};
-ghost use Rattle.book.specs.Limits.{day_limit};
-ghost use Rattle.book.specs.Pairs.{while_open};
+ghost use Rattle.book.specs.Limits.{day_limit, open_limit};
+ghost use Rattle.book.specs.Pairs.{entered, while_open};
 ghost use Rattle.book.specs.Figures.{post, post_summary};
 ghost use Rattle.book.specs.Answers.{has_id, pair_of, answer_to};
 ghost use Rattle.book.specs.Postings.{fails_of, late_fails};
-ghost use Rattle.book.specs.Book.{book_after, accepted_after, accepted_in, book_after_all, fresh_book};
+ghost use Rattle.book.specs.Book.{book_after, accepted_in, book_after_all, fresh_book};
 ghost use Rattle.book.specs.Places.{IsAt, at_place};
 
 use crate::calls::{Answer, Call, Refusal};
@@ -61,7 +61,7 @@ fn find(pairs: &[Pair], id: u64) -> Result<(usize, Pair), Refusal>
     }
 }
 
-/// The pair at a place becomes another.
+/// The pair at a place becomes another one.
 #[tactic(auto, using(crate::proofs::Places::written_at))]
 fn put(pairs: &mut ArrayVec<Pair, OPEN_LIMIT>, place: usize, pair: Pair)
     requires { place < array_vec_len pairs.old }
@@ -79,7 +79,7 @@ fn take_out(pairs: &mut ArrayVec<Pair, OPEN_LIMIT>, place: usize)
     pairs.pop();
 }
 
-/// The same, and it goes once nothing of it is open.
+/// The pair at a place becomes another one, and goes once nothing of that is open.
 fn put_while_open(pairs: &mut ArrayVec<Pair, OPEN_LIMIT>, place: usize, pair: Pair)
     requires { place < array_vec_len pairs.old }
     ensures { pairs.new.items ≡ at_place pairs.old.items place (while_open pair) }
@@ -150,7 +150,7 @@ impl Book {
         }
     }
 
-    /// Any of the six calls, made in place. A refused call leaves the book as it was.
+    /// Any call, made in place. A refused call leaves the book as it was.
     pub fn apply(&mut self, call: Call) -> Answer
         ensures answer { result ≡ answer_to call self.old }
         ensures book { self.new ≡ book_after call self.old }
@@ -242,11 +242,13 @@ impl Book {
         Outcome { book: self, answer }
     }
 
-    /// A pair is entered, and where it is late its past days gain its fails.
-    fn on_enter(&mut self, entry: Entry) -> Answer
-        requires { self.old.today < day_limit }
-        ensures answer { result ≡ answer_to (Call.Enter entry) self.old }
-        ensures book { self.new ≡ book_after (Call.Enter entry) self.old }
+    /// The pair that an enter brings in, or why it is refused.
+    fn entered(&self, entry: &Entry) -> Result<Pair, Refusal>
+        requires { self.now.today < day_limit }
+        ensures pair { IfOk result (λ pair. pair ≡ entered entry.now) }
+        ensures accepted { IfOk result (λ _. answer_to (Call.Enter entry.now) self.now ≡ Ok tt) }
+        ensures room { IfOk result (λ _. array_vec_len self.now.pairs < open_limit) }
+        ensures refused { IfErr result (λ refusal. answer_to (Call.Enter entry.now) self.now ≡ Err refusal) }
     {
         let pair = entry.pair()?;
         if entry.id <= self.last_id {
@@ -255,6 +257,16 @@ impl Book {
         if self.pairs.is_full() {
             return Err(Refusal::BookFull);
         }
+        Ok(pair)
+    }
+
+    /// A pair is entered, and where it is late its past days gain its fails.
+    fn on_enter(&mut self, entry: Entry) -> Answer
+        requires { self.old.today < day_limit }
+        ensures answer { result ≡ answer_to (Call.Enter entry) self.old }
+        ensures book { self.new ≡ book_after (Call.Enter entry) self.old }
+    {
+        let pair = self.entered(&entry)?;
         self.pairs.push(pair);
         self.last_id = entry.id;
         post_late(&mut self.cells, &mut self.summaries, pair, self.today);

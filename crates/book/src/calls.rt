@@ -1,4 +1,4 @@
-//! The six calls, and why anything that is asked of the book is refused.
+//! The calls, and why anything that is asked of the book is refused.
 ghost use Rattle.std.specs.Prelude.{◌≡◌};
 ghost use Rattle.book.specs.Calls.{refusal_number, answer_number};
 

@@ -1,4 +1,4 @@
-//! The fails book: matched pairs of settlement instructions (SIs), the six calls, the figures of each day. The rules are in
+//! The fails book: matched pairs of settlement instructions (SIs), the calls, the figures of each day. The rules are in
 //! docs/RULES.md, and specs/ has a module for each of their sections.
 #![tactic(auto)]
 

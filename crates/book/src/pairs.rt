@@ -162,11 +162,10 @@ impl Entry {
     }
 
     /// Whether each value is in its range.
-    #[tactic(auto, using(crate::proofs::Ranges::in_range_lem))]
     pub fn is_in_range(&self) -> bool
         ensures { result ≡ in_range self.now }
     {
-        Kind::try_from(self.kind).is_ok() && Side::try_from(self.side).is_ok() && self.numbers_fit()
+        self.pair().is_ok()
     }
 
     /// The pair as it is entered, or number 2.

@@ -6,7 +6,6 @@ pub mod problem;
 pub mod streams;
 pub mod text;
 
-use crate::problem::Problem;
 use crate::streams::write_text;
 use crate::text::Text;
 use std::io;

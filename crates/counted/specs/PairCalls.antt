@@ -1,17 +1,17 @@
--- What a pair's own calls give on a day, in plain numbers, and the sum of that over pairs. docs/RULES.md, 'The six calls' and
+-- What a pair's own calls give on a day, in plain numbers, and the sum of that over pairs. docs/RULES.md, 'The calls' and
 -- 'A row'.
 use Rattle.std.specs.Prelude.{ℕ, ◌+◌, ◌*◌, Bool, ◌&&◌, ◌==◌, nat_le, nat_lt, List, [], ◌∷◌, ◌++◌, if◌then◌else◌}
 use Rattle.book.specs.declared.calls.Call.{Call}
-use Rattle.book.specs.declared.calls.Call.TheVariants.{Enter, Hold, Lack, Settle, Cancel, Close}
+use Rattle.book.specs.declared.calls.Call.TheVariants.{Enter, Settle, Close}
 use Rattle.book.specs.declared.pairs.Entry.{Entry}
 use Rattle.book.specs.declared.pairs.Pair.{Pair}
 use Rattle.book.specs.declared.sides.Sides.{Sides}
 use Rattle.book.specs.declared.sides.Sides.TheVariants.{Securities, Cash, OneEach}
-use Rattle.book.specs.Pairs.{kind_of, side_of, lack_of, entered, with_hold, with_lack, with_part, while_open}
+use Rattle.book.specs.Pairs.{kind_of, side_of, entered}
 use Rattle.book.specs.Sides.{sides_at_close, sides_when_late}
 use Rattle.book.specs.Answers.{has_id}
 use Rattle.book.specs.Postings.{is_failing, is_first_part}
-use Rattle.book.specs.Book.{changed}
+use Rattle.book.specs.Book.{on_id, becomes, changed}
 use Rattle.history.specs.History.{day_of}
 use Rattle.book.specs.declared.figures.Measure.{Measure}
 use Rattle.book.specs.declared.figures.Measure.TheVariants.{Number, Value}
@@ -66,11 +66,8 @@ in_fail isd_value s v on_isd = if on_isd then 2 * v else 0
 -- the pair of id i while it is open, after a call on day t
 abbrev pub open_after : ℕ → ℕ → Call → List Pair → List Pair
 open_after i t (Enter e) ps = if e.id == i then ps ++ entered e ∷ [] else ps
-open_after i t (Hold id side on) ps = changed id (λ p. with_hold (side_of side) (on == 1) p ∷ []) ps
-open_after i t (Lack id lack) ps = changed id (λ p. with_lack (lack_of lack) p ∷ []) ps
-open_after i t (Settle id part) ps = changed id (λ p. while_open (with_part t part p)) ps
-open_after i t (Cancel id) ps = changed id (λ p. []) ps
 open_after i t Close ps = ps
+open_after i t call ps = changed (on_id call) (becomes call t) ps
 
 -- after all of them, replayed: one pair, or none
 abbrev pub open_of : ℕ → List Call → List Pair

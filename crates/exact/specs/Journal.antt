@@ -1,4 +1,4 @@
--- The journal: all that the accepted calls of a list post. docs/RULES.md, 'The six calls' and 'A row'.
+-- The journal: all that the accepted calls of a list post. docs/RULES.md, 'The calls' and 'A row'.
 use Rattle.std.specs.Prelude.{◌≡◌, ℕ, Bool, ◌&&◌, ◌==◌, List, [], ◌∷◌, ◌++◌, map, filter, is_ok, if◌then◌else◌}
 use Rattle.std.specs.List.{fold}
 use Rattle.book.specs.declared.calls.Call.{Call}

@@ -21,7 +21,7 @@ is_past t None = true
 is_past t (Some d) = nat_le d t
 
 -- an open pair on day t
-pub record AreOpen (h : List Call) (t last : ℕ) (p : Pair) : Type 0 where
+pub record IsOpenUnheld (h : List Call) (t last : ℕ) (p : Pair) : Type 0 where
   pub sound : IsSound (as_entered p)
   pub stems : filter (has_id p.id) (origins h) ≡ as_entered p ∷ []
   pub rest : p.rest + parts p.id h ≡ p.amount
@@ -34,7 +34,7 @@ pub record AreOpen (h : List Call) (t last : ℕ) (p : Pair) : Type 0 where
 
 -- A hold and a lack change none of it.
 abbrev pub IsOpen : List Call → ℕ → ℕ → Pair → Type 0
-IsOpen h t last p = AreOpen h t last (unheld p)
+IsOpen h t last p = IsOpenUnheld h t last (unheld p)
 
 -- an accepted enter: its id, and a category from 1 to 9
 pub record IsSpent (last : ℕ) (e : Entry) : Type 0 where

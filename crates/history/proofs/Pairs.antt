@@ -1,7 +1,7 @@
 -- Sums over the open pairs, what holds of the pair of an id, and the pair as it was entered.
-use Rattle.history.proofs.Words.{◌≡◌, ◌≤◌, ◌∷◌, AllByRecursion, day_limit, category_count, largest_amount, largest_code, while_open}
-use Rattle.history.proofs.Words.{ℕ, false, List, [], None, Some, arith, Pair, Call, Enter, Hold, Lack, Cancel, sum_of}
-use Rattle.history.proofs.Words.{◌+◌, ◌<◌, ◌++◌, ◌==◌, Settle, side_of, lack_of, entered, with_hold, with_lack, with_part, pair_of}
+use Rattle.history.proofs.Words.{◌≡◌, ◌≤◌, ◌∷◌, AllByRecursion, day_limit, category_count, largest_amount, largest_code}
+use Rattle.history.proofs.Words.{ℕ, false, List, [], None, Some, arith, Pair, Call, Enter, sum_of}
+use Rattle.history.proofs.Words.{◌+◌, ◌<◌, ◌++◌, entered, pair_of}
 use Rattle.book.specs.declared.pairs.Lack.TheVariants as lack
 
 -- ---- sums over the pairs
@@ -50,20 +50,3 @@ pub record IsSound (p : Pair) : Type 0 where
   pub amount : p.amount ≤ largest_amount
   pub deliverer : IsCode p.deliverer
   pub receiver : IsCode p.receiver
-
--- ---- a call on an open pair
-
--- its id
-abbrev pub on_id : Call → ℕ
-on_id (Hold id side on) = id
-on_id (Lack id lack) = id
-on_id (Settle id part) = id
-on_id (Cancel id) = id
-on_id _ = 0
-
--- what becomes of the pair on day t
-abbrev pub becomes : Call → ℕ → Pair → List Pair
-becomes (Hold id side on) t p = with_hold (side_of side) (on == 1) p ∷ []
-becomes (Lack id lack) t p = with_lack (lack_of lack) p ∷ []
-becomes (Settle id part) t p = while_open (with_part t part p)
-becomes _ t p = []

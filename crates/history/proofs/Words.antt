@@ -10,7 +10,8 @@ pub use Rattle.std.specs.List.{AllByRecursion, range_with_len, fold}
 pub use Rattle.std.specs.Option.{option_to_list}
 pub use Rattle.std.specs.Prelude.{nat_le, nat_lt, if◌then◌else◌, ◌==◌, sum_by, slice_index_or, is_ok, option_map, sum}
 pub use Rattle.book.specs.Answers.{answer_to, pair_of, has_id, is_not_open, lowest_of, refused_if}
-pub use Rattle.book.specs.Book.{book_after, changed, pairs_after, last_id_after, accepted_after, fresh_book, book_after_all, today_after}
+pub use Rattle.book.specs.Book.{book_after, on_id, becomes, changed, pairs_after, last_id_after, accepted_after, fresh_book}
+pub use Rattle.book.specs.Book.{book_after_all, today_after}
 pub use Rattle.book.specs.Calls.{Answer, refusal_number}
 pub use Rattle.book.specs.Figures.{settled_part, in_measure, none, place, add_cell, no_summary, post, post_summary, add_summary, summary_of, gains_at}
 pub use Rattle.book.specs.Figures.{fail}

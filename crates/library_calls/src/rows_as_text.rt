@@ -40,6 +40,6 @@ fn say_buffer<R: Print>(rt: &R, book: &Book, buffer: &mut [u8]) -> io::Result<()
 pub fn into_short_buffers<R: Print>(rt: &R) -> io::Result<()> {
     println!(rt; "\nThe number 11, for a row as text into 127 bytes, and then into 128")?;
     let book = one_pair();
-    say_buffer(rt, &book, &mut [b'.'; 127])?;
-    say_buffer(rt, &book, &mut [b'.'; 128])
+    say_buffer(rt, &book, &mut [b'.'; SHORTEST_BUFFER - 1])?;
+    say_buffer(rt, &book, &mut [b'.'; SHORTEST_BUFFER])
 }

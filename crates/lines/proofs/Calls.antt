@@ -1,5 +1,5 @@
 -- The lines of calls are read right: a call is the numbers of its line, case by case, and its number picks the values.
-use Rattle.std.specs.Prelude.{◌≡◌, ℕ, ◌-◌, ◌^◌, ◌<◌, List, [], ◌∷◌, ◌++◌, length, get_or, drop, map, replicate, refl}
+use Rattle.std.specs.Prelude.{◌≡◌, ℕ, ◌-◌, ◌<◌, List, [], ◌∷◌, ◌++◌, length, get_or, drop, map, replicate, refl}
 use Rattle.std.specs.List.{AllByRecursion, range_with_len}
 use Rattle.std.proofs.Common.{decimal, slice_index_or, Some, sym, ◌∙◌, ap, subst, append_assoc, arith, length-append, rules}
 use Rattle.std.proofs.lemmas.List.FromFn.{fill_by_all}
@@ -8,7 +8,7 @@ use Rattle.std.proofs.lemmas.List.Elements.{length_all_zip}
 use Rattle.book.specs.declared.calls.Call.{Call}
 use Rattle.book.specs.declared.calls.Call.TheVariants.{Close}
 use Rattle.texts.specs.Lines.{line_text}
-use Rattle.lines.specs.Table.{column_count, call_count, numbers_of, call_made, highest_of, IsNumber, MakesItself, CallsAreNumbers}
+use Rattle.lines.specs.Table.{column_count, call_count, short_limit, numbers_of, call_made, call_from, highest_of, IsNumber, CallsAreNumbers}
 use Rattle.lines.specs.Grammar.{HasShortFields, line_of}
 use Rattle.lines.specs.Parts.{Parsed, call_read, end_of}
 use Rattle.lines.proofs.Readers.{IsRightAnswer, Reads, both_reads}
@@ -17,16 +17,29 @@ use Rattle.lines.proofs.Fields.{field_word, field_reads, AreUpTo, ended, end_sam
 -- ---- the table: a clause with a name covers the calls that have no clause of their own
 
 same_call : (call : Call) → (length (numbers_of call) ≡ column_count)
-    × (call_made (slice_index_or (numbers_of call) 0 0) (drop 1 (numbers_of call)) ≡ call) × MakesItself (numbers_of call)
-same_call Close = (refl, refl, ((omega arith, omega arith), refl))
-same_call call = (refl, refl, ((omega arith, omega arith), refl))
+    × IsNumber (slice_index_or (numbers_of call) 0 0) × (call_from (numbers_of call) ≡ call)
+same_call Close = (refl, (omega arith, omega arith), refl)
+same_call call = (refl, (omega arith, omega arith), refl)
+
+-- each number is that of some call
+numbered : (n : ℕ) → IsNumber n → slice_index_or (numbers_of (call_made n (replicate (column_count - 1) 0))) 0 0 ≡ n
+numbered n within = grind (arith, nat_tests)
 
 pub calls_are_numbers : CallsAreNumbers
-calls_are_numbers = record {
-  count = λ call. (same_call call).0;
-  same_call = λ call. (same_call call).1;
-  of_a_call = λ row. (λ (call, e). subst MakesItself e (same_call call).2, λ makes. (call_made (slice_index_or row 0 0) (drop 1 row), makes.1));
-}
+calls_are_numbers =
+    let made : (call : Call) → numbers_of (call_from (numbers_of call)) ≡ numbers_of call = λ call. ap numbers_of (same_call call).2 in
+    let is_made : (call : Call) (ns : List ℕ) → numbers_of call ≡ ns → numbers_of (call_from ns) ≡ ns =
+    λ call ns e. subst (λ l. numbers_of (call_from l) ≡ l) e (made call) in
+    record {
+      count = λ call. (same_call call).0;
+      number = λ n. (
+        λ (call, e). subst IsNumber e (same_call call).1,
+        λ within. (call_made n (replicate (column_count - 1) 0), numbered n within),
+      );
+      same_call = λ call. (same_call call).2;
+      of_a_call = λ ns. (λ (call, e). is_made call ns e, λ makes. (call_from ns, makes));
+      of_none = λ ns. (λ none makes. none (call_from ns) makes, λ unmade call e. unmade (is_made call ns e));
+    }
 
 -- ---- the values of each number's call
 
@@ -36,7 +49,7 @@ IsCallOf n values =
     AreUpTo values (drop 1 (highest_of n)) → HasShortFields (call_made n values) × (numbers_of (call_made n values) ≡ n ∷ values)
 
 record Picks (n : ℕ) : Type 0 where
-  short : AllByRecursion (λ h. h < 10 ^ 11) (drop 1 (highest_of n))
+  short : AllByRecursion (λ h. h < short_limit) (drop 1 (highest_of n))
   more : end_of (drop 1 (highest_of n)) ≡ 44
   count : length (drop 1 (highest_of n)) ≡ column_count - 1
   call : (values : List ℕ) → IsCallOf n (map (λ k. get_or values k 0) (range_with_len 0 (column_count - 1)))
@@ -45,11 +58,8 @@ picks : (call : Call) → Picks (slice_index_or (numbers_of call) 0 0)
 picks Close = record { short = search rules; more = refl; count = refl; call = λ values up. (search rules, grind arith) }
 picks call = record { short = search rules; more = refl; count = refl; call = λ values up. (search rules, grind arith) }
 
--- each number is that of some call
 numbers : (n : ℕ) → IsNumber n → Picks n
-numbers n within =
-    let same : slice_index_or (numbers_of (call_made n (replicate (column_count - 1) 0))) 0 0 ≡ n = grind (arith, nat_tests) in
-    subst Picks same (picks (call_made n (replicate (column_count - 1) 0)))
+numbers n within = subst Picks (numbered n within) (picks (call_made n (replicate (column_count - 1) 0)))
 
 -- ---- a line
 

@@ -1,5 +1,5 @@
 -- The fields of a line are read right: a field digit by digit, and the values one after the other.
-use Rattle.std.specs.Prelude.{◌≡◌, ℕ, zero, suc, ◌+◌, ◌-◌, ◌*◌, ◌/◌, ◌%◌, ◌^◌, ◌<◌, ◌≤◌, ◌==◌}
+use Rattle.std.specs.Prelude.{◌≡◌, ℕ, zero, suc, ◌+◌, ◌-◌, ◌*◌, ◌/◌, ◌%◌, ◌<◌, ◌≤◌, ◌==◌}
 use Rattle.std.specs.List.{AllByRecursion, AllZip}
 use Rattle.std.specs.Prelude.{List, [], ◌∷◌, ◌++◌, Bool, true, false, slice_set, if◌then◌else◌, Ok, Err}
 use Rattle.std.proofs.Common.{decimal, length, get_or, take, drop, refl, sym, ◌∙◌, ap, subst, ⊎_elim, append_assoc, arith}
@@ -9,6 +9,7 @@ use Rattle.std.proofs.lemmas.Bool.Decides.{nat_tests}
 use Rattle.std.proofs.lemmas.List.{drop_more, drop_all, take_rest, append-nil, length-set, nil_from_length, take_all, take_more_set}
 use Rattle.std.proofs.lemmas.List.Elements.{length_all_zip}
 use Rattle.lines.specs.Parts.{ends, continues, field_read, Parsed, and_then, values_read, end_of}
+use Rattle.lines.specs.Table.{short_limit}
 use Rattle.lines.specs.Grammar.{Begins}
 use Rattle.lines.proofs.Readers.{IsWordOf, IsRightAnswer, Reads, both_reads}
 
@@ -27,7 +28,7 @@ abbrev IsSoFar : ℕ → ℕ → Bool → ℕ → Type 0
 IsSoFar lowest highest true value = value ≡ 0
 IsSoFar lowest highest false value = IsWithin lowest highest value
 
-module _ (lowest highest end : ℕ) (lowest_bound : lowest ≤ 1) (order : lowest ≤ highest) (highest_bound : highest < 10 ^ 11)
+module _ (lowest highest end : ℕ) (lowest_bound : lowest ≤ 1) (order : lowest ≤ highest) (highest_bound : highest < short_limit)
     (end_bound : end < 48) where
   -- the digits of a number are read
   decimal_read : (fuel n : ℕ) → n < fuel → IsWithin lowest highest n → (rest : List ℕ)
@@ -119,7 +120,7 @@ pub up_to_themselves : (highest : List ℕ) → AreUpTo highest highest
 up_to_themselves [] = tt
 up_to_themselves (h ∷ hs) = (omega arith, up_to_themselves hs)
 
-pub values_reads : (highest : List ℕ) → AllByRecursion (λ h. h < 10 ^ 11) highest
+pub values_reads : (highest : List ℕ) → AllByRecursion (λ h. h < short_limit) highest
     → Reads (λ values. AreUpTo values highest) ended (values_read highest)
 unfolding values_read
 values_reads [] short =

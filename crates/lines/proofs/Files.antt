@@ -1,6 +1,6 @@
 -- A text's lines are its pieces, and a file of calls, written and read back: line by line. A line's LF is its last byte, so the
 -- first LF of a text ends its first line, a wrong one too: what stands in front of its first wrong byte begins a correct line.
-use Rattle.std.specs.Prelude.{◌≡◌, ℕ, zero, suc, ◌+◌, ◌-◌, ◌^◌, ◌<◌, List, [], ◌∷◌, ◌++◌, length, take, drop, min}
+use Rattle.std.specs.Prelude.{◌≡◌, ℕ, zero, suc, ◌+◌, ◌-◌, ◌<◌, List, [], ◌∷◌, ◌++◌, length, take, drop, min}
 use Rattle.std.specs.List.{AllByRecursion, after_first, position_or_len, AllZip, flat_map}
 use Rattle.std.specs.Str.Parse.{AllDigits}
 use Rattle.std.proofs.Common.{decimal, refl, not, Ok, Err, map, sym, ◌∙◌, ap, subst, ⊎_elim, append_assoc, arith, length-drop}
@@ -15,6 +15,7 @@ use Rattle.std.proofs.lemmas.List.Folds.{length-prefix_len, prefix_len-append}
 use Rattle.std.proofs.lemmas.Slice.Zip.{AllZip-long}
 use Rattle.book.specs.declared.calls.Call.{Call}
 use Rattle.lines.specs.declared.reader.Line.{Line}
+use Rattle.lines.specs.Table.{short_limit}
 use Rattle.lines.specs.Grammar.{Begins, IsLine, HasShortFields, line_of}
 use Rattle.lines.specs.Parts.{Parsed, call_read, line_or_place, line_read}
 use Rattle.lines.specs.Reading.{is_line_feed, IsLineAt, GoesOn, AreLines}
@@ -61,10 +62,10 @@ no_feed_digits : (ds : List ℕ) → AllDigits 10 ds → feed_place ds ≡ lengt
 no_feed_digits [] all = refl
 no_feed_digits (d ∷ ds) all = let digit = digit_from_value d all.0 in grind (arith, nat_tests, no_feed_digits ds all.1)
 
-no_feed : (n : ℕ) (rest : List ℕ) → n < 10 ^ 11 → feed_place (decimal n ++ rest) ≡ length (decimal n) + feed_place rest
+no_feed : (n : ℕ) (rest : List ℕ) → n < short_limit → feed_place (decimal n ++ rest) ≡ length (decimal n) + feed_place rest
 no_feed n rest short = (feed-append (decimal n) rest).0 (no_feed_digits (decimal n) (decimal_is_IsNumeral n (omega arith)).0.1)
 
-ended_last : (ns rest : List ℕ) → 0 < length ns → AllByRecursion (λ n. n < 10 ^ 11) ns
+ended_last : (ns rest : List ℕ) → 0 < length ns → AllByRecursion (λ n. n < short_limit) ns
     → suc (feed_place (ended ns ++ rest)) ≡ length (ended ns)
 ended_last [] rest some short = absurd (omega arith)
 ended_last (n ∷ []) rest some short =

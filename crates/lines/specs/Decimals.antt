@@ -1,7 +1,8 @@
 -- Numbers in decimal: of 1 to 11 digits, no leading zero except 0 itself. docs/RULES.md, 'The calls as text'.
-use Rattle.std.specs.Prelude.{◌≡◌, ℕ, ◌^◌, ◌<◌, ◌≤◌, ◌↔◌, List, length, slice_index_or}
+use Rattle.std.specs.Prelude.{◌≡◌, ℕ, ◌<◌, ◌≤◌, ◌↔◌, List, length, slice_index_or}
 use Rattle.std.specs.Fmt.{decimal}
 use Rattle.std.specs.Str.Parse.{IsNumeral, digits_value}
+use Rattle.lines.specs.Table.{short_limit}
 
 -- digits, at least one, no leading zero except 0 itself, that stand for a number
 pub record StandFor (digits : List ℕ) (number : ℕ) : Type 0 where
@@ -11,7 +12,7 @@ pub record StandFor (digits : List ℕ) (number : ℕ) : Type 0 where
   pub value : digits_value 10 digits ≡ number
 
 -- The decimal of a number is the one text that stands for it, and it has at most 11 digits exactly where the number is below
--- 10 ^ 11.
+-- the limit of a field's.
 pub record IsDecimal (number : ℕ) : Type 0 where
   pub one_text : (digits : List ℕ) → StandFor digits number ↔ (digits ≡ decimal number)
-  pub short : (length (decimal number) ≤ 11) ↔ (number < 10 ^ 11)
+  pub short : (length (decimal number) ≤ 11) ↔ (number < short_limit)

@@ -1,13 +1,13 @@
 -- What a correct line is, and which byte of a wrong one is the first wrong one. docs/RULES.md, 'The calls as text'.
-use Rattle.std.specs.Prelude.{◌≡◌, ℕ, suc, ◌^◌, ◌≤◌, ◌<◌, List, ◌++◌, length, take, map, Some}
+use Rattle.std.specs.Prelude.{◌≡◌, ℕ, suc, ◌≤◌, ◌<◌, List, ◌++◌, length, take, map, Some}
 use Rattle.std.specs.List.{AllByRecursion}
 use Rattle.book.specs.declared.calls.Call.{Call}
 use Rattle.texts.specs.Lines.{line_text}
-use Rattle.lines.specs.Table.{numbers_of}
+use Rattle.lines.specs.Table.{short_limit, numbers_of}
 
 -- a call that a line can hold: no number has more than 11 digits
 abbrev pub HasShortFields : Call → Type 0
-HasShortFields call = AllByRecursion (λ n. n < 10 ^ 11) (numbers_of call)
+HasShortFields call = AllByRecursion (λ n. n < short_limit) (numbers_of call)
 
 -- the line of a call: its numbers in decimal with commas between them, and LF
 abbrev pub line_of : Call → List ℕ

@@ -1,5 +1,5 @@
 -- The table of calls: what stands in the columns of each call's line. docs/RULES.md, 'The calls as text'.
-use Rattle.std.specs.Prelude.{◌≡◌, ℕ, ◌-◌, ◌≤◌, ◌==◌, ◌↔◌, List, [], ◌∷◌, length, drop, replicate, slice_index_or, if◌then◌else◌}
+use Rattle.std.specs.Prelude.{◌≡◌, ℕ, ◌-◌, ◌^◌, ◌≤◌, ◌==◌, ◌↔◌, List, [], ◌∷◌, length, drop, replicate, slice_index_or, if◌then◌else◌}
 use Rattle.book.specs.declared.calls.Call.{Call}
 use Rattle.book.specs.declared.calls.Call.TheVariants.{Enter, Hold, Lack, Settle, Cancel, Close}
 
@@ -41,13 +41,13 @@ call_made number (id ∷ kind ∷ category ∷ isd ∷ side ∷ amount ∷ deliv
     else Close))))
 call_made number values = Close
 
--- the largest number of 11 digits
-abbrev pub largest_short : ℕ
-largest_short = 99999999999
+-- a field has up to 11 digits: its number is below this
+abbrev pub short_limit : ℕ
+short_limit = 10 ^ 11
 
 -- the highest number of each column of a call's line: 0 where the call doesn't use it
 abbrev pub highest_of : ℕ → List ℕ
-highest_of number = numbers_of (call_made number (replicate (column_count - 1) largest_short))
+highest_of number = numbers_of (call_made number (replicate (column_count - 1) (short_limit - 1)))
 
 -- a call's number
 abbrev pub IsNumber : ℕ → Type 0
@@ -57,15 +57,19 @@ IsNumber number = (1 ≤ number) × (number ≤ call_count)
 abbrev pub IsNoCall : List ℕ → Type 0
 IsNoCall numbers = (call : Call) → numbers_of call ≡ numbers → ⊥
 
--- the first of the numbers is a call's, and they are those of the call that they make
-abbrev pub MakesItself : List ℕ → Type 0
-MakesItself numbers =
-    let number = slice_index_or numbers 0 0 in
-    IsNumber number × (numbers_of (call_made number (drop 1 numbers)) ≡ numbers)
+-- the call that the first of the numbers makes with those behind it
+abbrev pub call_from : List ℕ → Call
+call_from numbers = call_made (slice_index_or numbers 0 0) (drop 1 numbers)
 
--- A call is its numbers: each call has so many, and its numbers make it again. Numbers are a call's exactly where the
--- first of them is a call's number, and they are those of the call that they make.
+-- A call is its numbers.
 pub record CallsAreNumbers : Type 0 where
+  -- Each call has so many of them.
   pub count : (call : Call) → length (numbers_of call) ≡ column_count
-  pub same_call : (call : Call) → call_made (slice_index_or (numbers_of call) 0 0) (drop 1 (numbers_of call)) ≡ call
-  pub of_a_call : (numbers : List ℕ) → ((call : Call) × (numbers_of call ≡ numbers)) ↔ MakesItself numbers
+  -- The first is a call's number exactly where it is one of those that are counted.
+  pub number : (n : ℕ) → ((call : Call) × (slice_index_or (numbers_of call) 0 0 ≡ n)) ↔ IsNumber n
+  -- They make it again.
+  pub same_call : (call : Call) → call_from (numbers_of call) ≡ call
+  -- Numbers are a call's exactly where they are those of the call that they make,
+  pub of_a_call : (numbers : List ℕ) → ((call : Call) × (numbers_of call ≡ numbers)) ↔ (numbers_of (call_from numbers) ≡ numbers)
+  -- and no call's exactly where they aren't.
+  pub of_none : (numbers : List ℕ) → IsNoCall numbers ↔ (numbers_of (call_from numbers) ≡ numbers → ⊥)

@@ -1,4 +1,4 @@
-//! Call lines as text: a line read is a call, or the place of its first wrong byte; and lines written.
+//! Call lines as text: the numbers of each call, and a line read, which is a call or the place of its first wrong byte.
 #![tactic(auto)]
 
 mod field;

@@ -1,7 +1,8 @@
 //! One line: its values, and the call that it is.
 
-ghost use Rattle.std.specs.Prelude.{◌≡◌, ◌+◌, ◌^◌, ◌<◌, Ok, Err, IfOk, IfErr, All, length, ◌==◌, if◌then◌else◌};
+ghost use Rattle.std.specs.Prelude.{◌≡◌, ◌+◌, ◌<◌, Ok, Err, IfOk, IfErr, All, length, ◌==◌, if◌then◌else◌};
 ghost use Rattle.lines.specs.Parts.{call_read, values_read};
+ghost use Rattle.lines.specs.Table.{short_limit};
 
 use crate::field::field;
 use crate::table::{CALLS, VALUES, call_made, highest_of};
@@ -19,7 +20,7 @@ fn end_of(i: usize) -> u8
 #[tactic(auto, using(crate::proofs::Fields::values_loop))]
 fn values<'a>(text: &'a [u8], highest: &[u64]) -> Result<([u64; VALUES], &'a [u8]), &'a [u8]>
     requires count { length highest.now ≡ VALUES }
-    requires short { All (λ most. most < 10 ^ 11) highest.now }
+    requires short { All (λ most. most < short_limit) highest.now }
     ensures read { IfOk result (λ read. values_read highest.now text.now ≡ Ok (read.0, read.1.now)) }
     ensures wrong { IfErr result (λ left. values_read highest.now text.now ≡ Err left.now) }
 {

@@ -1,6 +1,7 @@
 //! The table of calls: what stands in the columns of each call's line.
 //!
-//! It is said here and in `specs/Table`. The reader takes it from here, and so does who writes or lends the numbers of calls.
+//! It is said here and in `specs/Table`. The reader takes it from here, and so will whoever writes or lends the numbers of
+//! calls.
 
 ghost use Rattle.std.specs.Prelude.{◌≡◌, MatchOption};
 ghost use Rattle.lines.specs.Table.{numbers_of, call_made, highest_of, IsNoCall};
@@ -17,8 +18,8 @@ pub const CALLS: u64 = 6;
 /// Values of a line: the numbers behind the call's number.
 pub(crate) const VALUES: usize = COLUMNS - 1;
 
-/// The largest number of 11 digits.
-const LARGEST_SHORT: u64 = 99_999_999_999;
+/// A field has up to 11 digits: its number is below this.
+const SHORT_LIMIT: u64 = 100_000_000_000;
 
 /// The numbers of a call's line. A column that the call doesn't use is 0.
 pub fn numbers_of(call: &Call) -> [u64; COLUMNS]
@@ -81,7 +82,7 @@ pub(crate) fn call_made(number: u64, values: &[u64]) -> Call
 pub(crate) fn highest_of(number: u64) -> [u64; COLUMNS]
     ensures { result ≡ highest_of number }
 {
-    numbers_of(&call_made(number, &[LARGEST_SHORT; VALUES]))
+    numbers_of(&call_made(number, &[SHORT_LIMIT - 1; VALUES]))
 }
 
 /// The call with these numbers. None has them where the first is no call's number, or one that the call doesn't use isn't 0.

@@ -18,7 +18,7 @@ pub fn calls_are_numbers()
     ensures { CallsAreNumbers }
 {}
 
-/// Each number has one text, with no leading zero, and at most 11 digits exactly below 10 ^ 11.
+/// Each number has one text, with no leading zero, and at most 11 digits exactly below the limit of a field's number.
 pub fn one_decimal()
     ensures { (number : ℕ) → number < 2 ^ 64 → IsDecimal number }
 {}

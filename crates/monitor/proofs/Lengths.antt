@@ -30,9 +30,9 @@ use Rattle.monitor.specs.RowText.{row_line, line_bound, shortest_buffer, LinesAr
 use Rattle.monitor.specs.Table.{closed_days, counts_text, table_text}
 use Rattle.monitor.specs.declared.table.TheConstants.{TABLE_ROOM}
 use Rattle.monitor.specs.declared.days.Days.{Days}
-use Rattle.monitor.specs.declared.report_table.TheConstants.{REPORT_ROOM}
+use Rattle.monitor.specs.declared.report_table.TheConstants.{REPORT_ROOM, REPORT_COLUMNS}
 use Rattle.monitor.specs.Days.{first_and_last}
-use Rattle.monitor.specs.Texts.{over_days, text_given}
+use Rattle.monitor.specs.Texts.{fault, over_days, text_given}
 use Rattle.monitor.specs.ReportTable.{report_line}
 use Rattle.monitor.specs.declared.list_table.TheConstants.{LIST_ROOM}
 use Rattle.monitor.specs.ListTable.{measure_text, list_lines, lists_text}
@@ -145,9 +145,9 @@ duration_short : (d : Option ℕ) → width (option_map capped d) ≤ widest
 duration_short None = omega arith
 duration_short (Some n) = capped_field n
 
--- as many bytes as a report's line takes, of 15 numbers of 64 bits
+-- as many bytes as a report's line takes, of numbers of 64 bits
 abbrev report_bound : ℕ
-report_bound = 15 * widest
+report_bound = REPORT_COLUMNS * widest
 
 report_short : (first last category : ℕ) (rows : List Row) → first < day_limit → last < day_limit → category ≤ category_count
     → length (report_line first last category (report_of (sums_of rows))) ≤ report_bound
@@ -221,8 +221,8 @@ lists_short days b = over_short list_names both_lists LIST_ROOM days b (omega ar
 
 -- ---- whatever the file
 
--- a text is no longer than that of any lines, and than the 9 bytes that a faulty file has
-fits : (text : List Line → List ℕ) (room : ℕ) (file bytes : List ℕ) → 9 ≤ room
+-- a text is no longer than that of any lines, and than that of a faulty file
+fits : (text : List Line → List ℕ) (room : ℕ) (file bytes : List ℕ) → length fault ≤ room
     → ((lines : List Line) → HasLines file lines → length (text lines) ≤ room) → IsTextOf text file bytes → length bytes ≤ room
 fits text room file bytes some short (inl given) = omega (arith, ap length given.2, short given.0 given.1)
 fits text room file bytes some short (inr faulty) = omega (arith, ap length faulty.1)

@@ -7,14 +7,14 @@ ghost use Rattle.monitor.specs.Replay.{file_limit};
 ghost use Rattle.monitor.specs.Answers.{answer_line, answers_text, AreAnswers};
 
 use crate::refused::or_fault;
-use crate::replay::{LineAnswer, lines_of, make};
+use crate::replay::{FILE_LIMIT, LineAnswer, lines_of, make};
 use book::book::Book;
 use book::calls::number_of;
 use lines::reader::Lines;
 use texts::page::{Page, push, push_field, push_line};
 
 /// As many bytes as the answers may take: 18 for each byte of a file.
-pub const ANSWER_ROOM: usize = 1_179_648;
+pub const ANSWER_ROOM: usize = 18 * FILE_LIMIT;
 
 /// The line of an answer.
 #[tactic(auto, using(crate::proofs::Joined::three_parts))]

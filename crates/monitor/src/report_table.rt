@@ -7,7 +7,8 @@ ghost use Rattle.monitor.specs.ReportTable.{report_names, report_fields, report_
 use crate::days::Days;
 use crate::refused::{or_fault, run_or_refused};
 use crate::replay::Replayed;
-use crate::row_text::row_fields;
+use crate::row_text::{ROW_COLUMNS, row_fields};
+use arrayvec::ArrayVec;
 use book::book::Book;
 use book::limits::CATEGORIES;
 use reports::report::{Report, single_report};
@@ -17,40 +18,22 @@ use texts::page::{Page, push_line};
 /// As many bytes as the reports may take.
 pub const REPORT_ROOM: usize = 4096;
 
+/// The columns of a row, two in front of them and three behind.
+const REPORT_COLUMNS: usize = ROW_COLUMNS + 5;
+
 /// The columns of a report: those of a row, and the run of days, rates and duration beside them.
 #[tactic(auto, unfolding(crate::specs::ReportTable::report_fields, crate::specs::RowText::row_fields))]
-fn report_fields(run: Run, category: u64, report: Report) -> [Option<u64>; 15]
-    ensures { result ≡ report_fields run.first run.last category report }
+fn report_fields(run: Run, category: u64, report: Report) -> ArrayVec<Option<u64>, REPORT_COLUMNS>
+    ensures { result.items ≡ report_fields run.first run.last category report }
 {
-    let [
-        category,
-        total_n,
-        settled_n,
-        sec_n,
-        cash_n,
-        total_v,
-        settled_v,
-        sec_v,
-        cash_v,
-        isd_v,
-    ] = row_fields(category, report.sums);
-    [
-        Some(run.first),
-        Some(run.last),
-        category,
-        total_n,
-        settled_n,
-        sec_n,
-        cash_n,
-        total_v,
-        settled_v,
-        sec_v,
-        cash_v,
-        isd_v,
-        Some(report.rate_by_number),
-        Some(report.rate_by_value),
-        report.duration,
-    ]
+    let mut fields = ArrayVec::new();
+    fields.push(Some(run.first));
+    fields.push(Some(run.last));
+    let _ = fields.try_extend_from_slice(&row_fields(category, report.sums));
+    fields.push(Some(report.rate_by_number));
+    fields.push(Some(report.rate_by_value));
+    fields.push(report.duration);
+    fields
 }
 
 /// The line of a report.

@@ -1,6 +1,6 @@
 //! A row as text: into a lent buffer, and the count of bytes back, as docs/RULES.md, 'A call file', asks for it.
 
-ghost use Rattle.std.specs.Prelude.{◌≡◌, ◌+◌, ◌*◌, ◌≤◌, ◌++◌, length};
+ghost use Rattle.std.specs.Prelude.{◌≡◌, ◌+◌, ◌≤◌, ◌++◌, length};
 ghost use Rattle.book.specs.Rows.{row_answer};
 ghost use Rattle.monitor.specs.declared.row_text.TheConstants.{LINE_ROOM};
 ghost use Rattle.monitor.specs.RowText.{row_fields, row_line, row_text, LinesAreShort, WholeLines};
@@ -13,12 +13,15 @@ use texts::page::{Page, push_line, write_to};
 /// A shorter buffer is refused.
 pub const SHORTEST_BUFFER: usize = 128;
 
-/// As many bytes as a line of any ten numbers may take.
-const LINE_ROOM: usize = 210;
+/// The columns of a row.
+pub(crate) const ROW_COLUMNS: usize = 10;
+
+/// As many bytes as a line of any ten numbers may take: 20 digits each, and a byte behind.
+const LINE_ROOM: usize = 21 * ROW_COLUMNS;
 
 /// The columns of the table.
 #[tactic(auto, unfolding(crate::specs::RowText::row_fields))]
-pub(crate) fn row_fields(day: u64, row: Row) -> [Option<u64>; 10]
+pub(crate) fn row_fields(day: u64, row: Row) -> [Option<u64>; ROW_COLUMNS]
     ensures fields { result ≡ row_fields day row }
     ensures short { length (row_line day row) ≤ LINE_ROOM }
 {

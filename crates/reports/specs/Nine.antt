@@ -4,6 +4,7 @@ use Rattle.std.specs.List.{range_with_len}
 use Rattle.book.specs.Limits.{category_count}
 use Rattle.book.specs.declared.book.Book.{Book}
 use Rattle.book.specs.declared.calls.Refusal.{Refusal}
+use Rattle.book.specs.declared.figures.Figure.{Figure}
 use Rattle.book.specs.declared.calls.Refusal.TheVariants.{NotClosed}
 use Rattle.reports.specs.declared.report.Report.{Report}
 use Rattle.reports.specs.declared.nine.NumberedReport.{NumberedReport}
@@ -38,9 +39,17 @@ abbrev pub NineCarryOne : Type 0
 NineCarryOne =
     (b : Book) (first last : ℕ) → All (λ (r : NumberedReport). r.answer ≡ (if is_run first last b then Ok tt else Err NotClosed)) (nine_answer first last b)
 
--- Where the run is refused, each of the nine has no figures: every one is 0, and the duration is absent.
+-- every figure of a report is 0, and its duration absent
+abbrev pub HasNoFigures : Report → Type 0
+HasNoFigures r =
+    let zero : Figure = record { number = 0; value = 0 } in
+    (r.sums ≡ record { total = zero; settled = zero; securities = zero; cash = zero; isd_value = 0 })
+    × (r.rate_by_number ≡ 0)
+    × (r.rate_by_value ≡ 0)
+    × (r.duration ≡ None)
+
+-- Where the run is refused, each of the nine has no figures.
 abbrev pub RefusedAreEmpty : Type 0
 RefusedAreEmpty =
     (b : Book) (first last : ℕ) → is_run first last b ≡ false
-    → All (λ (r : NumberedReport). (r.report.sums ≡ no_row) × (r.report.rate_by_number ≡ 0) × (r.report.rate_by_value ≡ 0) × (r.report.duration ≡ None))
-    (nine_answer first last b)
+    → All (λ (r : NumberedReport). HasNoFigures r.report) (nine_answer first last b)

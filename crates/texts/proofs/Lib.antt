@@ -1,2 +1,3 @@
 pub mod Left
 pub mod Lengths
+pub mod Worked

@@ -1,7 +1,7 @@
-//! Bytes put behind those of a page: a text of bounded length, in memory of its own.
+//! A page, which is a text of bounded length in memory of its own, and what is put behind its bytes.
 //!
-//! No call of a customer's leads here but by way of a text whose page holds all of it, whatever the file: so these functions ask
-//! for room, and none refuses.
+//! These functions ask their caller for room, so none of them refuses. Each text that is made with them is proved to fit its
+//! page, whatever the file: so no call of a customer's asks for anything.
 
 ghost use Rattle.std.specs.Prelude.{◌≡◌, ◌+◌, ◌≤◌, ◌++◌, length, min};
 ghost use Rattle.texts.specs.Lines.{field_text, line_text, written};

@@ -1,10 +1,10 @@
-//! The six calls, each by value, as the customer asked for them, and in place.
+//! The calls, each by value, as the customer asked for them, and in place.
 ghost use Rattle.std.specs.Prelude.{◌≡◌, ◌<◌, ◌≤◌};
 ghost use Rattle.book.specs.Limits.{open_limit, largest_id};
 
 use book::book::{Book, Outcome};
 use book::calls::{Answer, Call};
-use book::limits::{DAYS, LARGEST_CODE, OPEN_LIMIT};
+use book::limits::{CATEGORIES, DAYS, LARGEST_CODE, OPEN_LIMIT};
 use book::pairs::Entry;
 
 /// The last pair of the full book.
@@ -18,7 +18,7 @@ fn entry_of(id: u64) -> Entry {
     Entry {
         id,
         kind: 1 + id % 4,
-        category: 1 + id % 9,
+        category: 1 + id % CATEGORIES,
         isd: 0,
         side: 1 + id % 2,
         amount: 1_000_000 + id % 65_536,

@@ -1,9 +1,10 @@
 //! The table and the lists of a file.
-ghost use Rattle.std.specs.Prelude.{◌≡◌, ℕ, List, ◌++◌, drop, length};
+ghost use Rattle.std.specs.Prelude.{◌≡◌, ℕ, ◌≤◌, List, ◌++◌, drop, length};
 ghost use Rattle.monitor.specs.declared.days.Days.{Days};
 ghost use Rattle.monitor.specs.Texts.{IsTextOf};
 ghost use Rattle.monitor.specs.Table.{table_text};
 ghost use Rattle.monitor.specs.ListTable.{lists_text};
+ghost use Rattle.monitor.specs.Theorems.{table_room, list_room};
 
 use monitor::days::Days;
 use monitor::list_table::{LIST_ROOM, write_lists};
@@ -17,6 +18,15 @@ fn put_page<const N: usize>(page: &Page<N>, buffer: &mut [u8; N]) -> usize
     ensures buffer { buffer.new ≡ page.now.items ++ drop (length page.now.items) buffer.old }
 {
     write_to(page, buffer)
+}
+
+/// As many bytes as the larger of the two may take: the caller's buffer has no fewer.
+#[unsafe(no_mangle)]
+pub extern "C" fn largest_room() -> usize
+    ensures table { table_room ≤ result }
+    ensures lists { list_room ≤ result }
+{
+    TABLE_ROOM.max(LIST_ROOM)
 }
 
 /// The table of a file, at the buffer's start; the count of its bytes comes back.

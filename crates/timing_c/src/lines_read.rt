@@ -3,6 +3,7 @@ ghost use Rattle.std.specs.Prelude.{◌≡◌};
 
 use book::calls::Call;
 use lines::reader::{Line, Lines};
+use lines::table::{CALLS, numbers_of};
 use monitor::replay::FILE_LIMIT;
 
 /// A line of an enter.
@@ -18,23 +19,11 @@ fn full_file() -> [u8; FILE_LIMIT] {
 }
 
 /// The sum of a call's values, over the end of 64 bits.
-fn sum_of_call(call: Call) -> u64 {
-    match call {
-        Call::Enter(entry) => entry
-            .id
-            .wrapping_add(entry.kind)
-            .wrapping_add(entry.category)
-            .wrapping_add(entry.isd)
-            .wrapping_add(entry.side)
-            .wrapping_add(entry.amount)
-            .wrapping_add(entry.deliverer)
-            .wrapping_add(entry.receiver),
-        Call::Hold { id, side, on } => id.wrapping_add(side).wrapping_add(on),
-        Call::Lack { id, lack } => id.wrapping_add(lack),
-        Call::Settle { id, part } => id.wrapping_add(part),
-        Call::Cancel { id } => id,
-        Call::Close => 0,
-    }
+fn sum_of_call(call: &Call) -> u64 {
+    let numbers = numbers_of(call);
+    numbers[1..]
+        .iter()
+        .fold(0u64, |sum, value| sum.wrapping_add(*value))
 }
 
 /// The sum of these over the lines of a text; a wrong line counts by its place.
@@ -42,7 +31,7 @@ fn sum_of_lines(text: &[u8]) -> u64 {
     let mut sum = 0u64;
     for line in Lines::new(text) {
         sum = sum.wrapping_add(match line {
-            Line::Correct(call) => sum_of_call(call),
+            Line::Correct(call) => sum_of_call(&call),
             Line::Wrong(place) => place as u64,
         });
     }
@@ -58,7 +47,7 @@ pub extern "C" fn reads(times: u64) -> u64
     let mut text = full_file();
     let mut sum = 0;
     for n in 0..times {
-        text[0] = b'1' + (n % 6) as u8;
+        text[0] = b'1' + (n % CALLS) as u8;
         sum = sum_of_lines(&text);
     }
     sum

@@ -5,7 +5,7 @@ use Rattle.history.proofs.Words.{entered, answer_to, accepted_after, fresh_book,
 use Rattle.book.specs.Limits.{open_limit}
 use Rattle.book.specs.Calls.{answer_number}
 use Rattle.counted.proofs.Plain.{given_row}
-use Rattle.balance.specs.DailyBalance.{rows_of, fails_of, ArePrevious, newly_due, cancelled, part_settled}
+use Rattle.balance.specs.DailyBalance.{rows_of, fails_together, ArePrevious, newly_due, cancelled, part_settled}
 use Rattle.worked.specs.FiveDays.{WorkedHolds, SidesAreTheBalance, before, calls_of, numbers_given, worked_when_full}
 use Rattle.lines.specs.Worked.{entry_of}
 use Rattle.worked.specs.Edges.{Claim, edges, gives_when_full, enter_of}
@@ -61,13 +61,13 @@ all_edges =
 
 sides : SidesAreTheBalance
 sides m b h day category x = (
-  ap (λ r. in_measure m r.settled + fails_of m r + cancelled m category day h) (given_row b day category x.row x.given).2,
+  ap (λ r. in_measure m r.settled + fails_together m r + cancelled m category day h) (given_row b day category x.row x.given).2,
   ap (λ n. n + newly_due m category day h + part_settled m category day h) (previous day x.previous x.are_previous),
 )
   where
     previous : (day n : ℕ) → ArePrevious m category day (rows_of b) n → before m b day category ≡ n
     previous zero n none = sym none
-    previous (suc d) n y = ap (fails_of m) (given_row b d category y.0 y.1).2 ∙ y.2
+    previous (suc d) n y = ap (fails_together m) (given_row b d category y.0 y.1).2 ∙ y.2
 
 pub worked_holds : WorkedHolds
 unfolding book_to pairs_to entry_to

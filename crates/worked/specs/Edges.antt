@@ -2,7 +2,6 @@
 use Rattle.std.specs.Prelude.{◌≡◌, ℕ, List, [], ◌∷◌, ◌++◌, map, replicate, Ok}
 use Rattle.std.specs.List.{range_with_len}
 use Rattle.rates.specs.Rate.{rate}
-use Rattle.book.specs.Limits.{open_limit}
 use Rattle.book.specs.Calls.{answer_number}
 use Rattle.book.specs.declared.calls.Call.{Call}
 use Rattle.book.specs.declared.calls.Call.TheVariants.{Hold, Settle, Close}
@@ -52,7 +51,7 @@ pub data Edge : Type 0 where
 -- what it claims
 abbrev pub Claim : Edge → Type 0
 Claim (gives_numbers calls given) = numbers calls ≡ given
-Claim (gives_when_full calls given) = numbers (map enter_of (range_with_len 1 open_limit) ++ calls) ≡ replicate open_limit 0 ++ given
+Claim (gives_when_full calls given) = numbers (map enter_of (range_with_len 1 1024) ++ calls) ≡ replicate 1024 0 ++ given
 Claim (gives_row calls day category r) = row_answer day category (book_of calls) ≡ Ok r
 Claim (gives_rate fails total r) = rate fails total ≡ r
 

@@ -1,7 +1,7 @@
 -- A list of calls worked by hand from the rules: the number that comes back from each call, what is then read off the accepted
 -- calls, the rows, and both sides of the balance, for each of five days and three categories. It has two parts on a day, a part
 -- and then a cancel on a day, cancels before, on and after the ISD, late pairs, and refused calls; with the two shorter lists
--- each number that the six calls give comes back. Last stand the fails by deliverer and by receiver, and the summaries.
+-- each number that the calls give comes back. Last stand the fails by deliverer and by receiver, and the summaries.
 use Rattle.std.specs.Prelude.{◌≡◌, ℕ, zero, suc, ◌+◌, Bool, true, false, ◌==◌, List, [], ◌∷◌, ◌++◌, map, replicate, Result, Ok, Err}
 use Rattle.book.specs.declared.calls.Call.{Call}
 use Rattle.book.specs.declared.calls.Call.TheVariants.{Enter, Hold, Lack, Settle, Cancel, Close}
@@ -23,7 +23,7 @@ use Rattle.counted.specs.Counted.{row_at}
 use Rattle.exact.specs.Journal.{journal, added_for}
 use Rattle.selections.specs.Readings.{rest_of}
 use Rattle.balance.specs.DailyBalance as balance
-use Rattle.balance.specs.DailyBalance.{fails_of, rows_of, Balances}
+use Rattle.balance.specs.DailyBalance.{fails_together, rows_of, Balances}
 use Rattle.lines.specs.Worked.{entry_of, enter}
 use Rattle.worked.specs.Edges.{enter_between, enter_of, row, numbers, Claim, gives_when_full}
 
@@ -223,12 +223,12 @@ worked_readings = record {
 
 -- settled + securities fails + cash fails + cancelled
 abbrev pub left_side : Measure → Book → List Call → ℕ → ℕ → ℕ
-left_side m b h day category = in_measure m (row_at b day category).settled + fails_of m (row_at b day category) + balance.cancelled m category day h
+left_side m b h day category = in_measure m (row_at b day category).settled + fails_together m (row_at b day category) + balance.cancelled m category day h
 
 -- the previous day's fails
 abbrev pub before : Measure → Book → ℕ → ℕ → ℕ
 before m b zero category = 0
-before m b (suc day) category = fails_of m (row_at b day category)
+before m b (suc day) category = fails_together m (row_at b day category)
 
 -- previous day's fails + newly due + part-settled
 abbrev pub right_side : Measure → Book → List Call → ℕ → ℕ → ℕ
@@ -392,7 +392,7 @@ pub record SummariesGiven : Type 0 where
 abbrev pub SidesAreTheBalance : Type 0
 SidesAreTheBalance =
     (m : Measure) (b : Book) (h : List Call) (day category : ℕ) (x : Balances m category day h (rows_of b))
-    → (left_side m b h day category ≡ in_measure m x.row.settled + fails_of m x.row + balance.cancelled m category day h)
+    → (left_side m b h day category ≡ in_measure m x.row.settled + fails_together m x.row + balance.cancelled m category day h)
     × (right_side m b h day category ≡ x.previous + balance.newly_due m category day h + balance.part_settled m category day h)
 
 -- What is worked by hand is what the definitions give.
