@@ -12,7 +12,7 @@ pub use Rattle.book.specs.declared.book.Book.{Book}
 
 -- ---- a call on an open pair
 
--- the id that it names
+-- the id of the open pair that it is on, 0 where it is on none
 abbrev pub on_id : Call → ℕ
 on_id (Hold id side on) = id
 on_id (Lack id lack) = id
@@ -31,8 +31,8 @@ becomes _ today p = []
 
 -- the pairs, with what becomes of the first of that id in its place
 abbrev pub changed : ℕ → (Pair → List Pair) → List Pair → List Pair
-changed id becomes [] = []
-changed id becomes (p ∷ ps) = if has_id id p then becomes p ++ ps else p ∷ changed id becomes ps
+changed id next [] = []
+changed id next (p ∷ ps) = if has_id id p then next p ++ ps else p ∷ changed id next ps
 
 -- the open pairs, in the order of entering
 abbrev pub pairs_after : Call → Book → List Pair

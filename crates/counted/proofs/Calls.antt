@@ -1,11 +1,10 @@
 -- Each accepted call keeps that the figures are counted, and leaves room for what is open: what it posts is what it gives.
-use Rattle.history.proofs.Words.{◌≡◌, ◌≤◌, ◌∷◌, ◌∙◌, ◌==◌, nat_tests, day_limit, late_fail, postings, answer_to, is_close}
+use Rattle.history.proofs.Words.{◌≡◌, ◌≤◌, ◌∷◌, ◌∙◌, ◌==◌, nat_tests, day_limit, late_fail, postings, answer_to, is_close, on_id, becomes}
 use Rattle.history.proofs.Words.{ℕ, suc, Bool, List, [], map, None, Some, Ok, refl, ap, sym, arith, Call, Enter, Close, Cell, Entry, Pair, Book}
 use Rattle.history.proofs.Words.{zero, ◌+◌, ◌-◌, ◌<◌, Option, Settle, entered, posting, has_id, pair_of, Measure, sum_of, day_of, entries}
 use Rattle.history.proofs.Words.{filter, filter-append, settled_part, is_failing, is_first_part, pairs_after, last_id_after, append-nil, part_posting}
 use Rattle.history.proofs.Words.{if◌then◌else◌, AllByRecursion, range_with_len, option_to_list, largest_amount, sides_at_close, accepted_after}
 use Rattle.history.proofs.Pairs.{IsSound, as_entered, all_of_pair}
-use Rattle.book.specs.Book.{on_id, becomes}
 use Rattle.history.proofs.Ids.{none_found, id-pair_of, filter-has_id}
 use Rattle.history.proofs.Accepted.{open_day, open_pair, accepts, settles}
 use Rattle.history.proofs.Agrees.{IsOpen, IsSpent, below_last}

@@ -1,8 +1,7 @@
 -- What an accepted call says of the book that it finds: of the refusals in its list none applies.
 use Rattle.history.proofs.Words.{◌≡◌, ℕ, ◌<◌, ◌≤◌, false, Option, None, Some, Ok, refl, arith, nat_tests, Call, Enter, Settle}
-use Rattle.history.proofs.Words.{Entry, Pair, Book, day_limit, largest_id, entered, answer_to, pair_of, is_not_open}
+use Rattle.history.proofs.Words.{Entry, Pair, Book, day_limit, largest_id, entered, answer_to, pair_of, is_not_open, on_id}
 use Rattle.history.proofs.Pairs.{IsSound}
-use Rattle.book.specs.Book.{on_id}
 
 -- any call: it falls on a day that is not finished
 pub open_day : (call : Call) (b : Book) → answer_to call b ≡ Ok tt → b.today < day_limit

@@ -20,7 +20,7 @@ abbrev pub is_past : ℕ → Option ℕ → Bool
 is_past t None = true
 is_past t (Some d) = nat_le d t
 
--- an open pair on day t
+-- an open pair on day t, its holds and its lack left out
 pub record IsOpenUnheld (h : List Call) (t last : ℕ) (p : Pair) : Type 0 where
   pub sound : IsSound (as_entered p)
   pub stems : filter (has_id p.id) (origins h) ≡ as_entered p ∷ []

@@ -1,8 +1,7 @@
 -- Accepted calls keep the agreement of book and history.
 use Rattle.history.proofs.Words.{◌≡◌, ◌≤◌, ◌∷◌, AllByRecursion, pairs_after, last_id_after, accepted_after, fresh_book, today_after}
 use Rattle.history.proofs.Words.{ℕ, Bool, false, List, [], Some, Ok, refl, arith, Call, Enter, Hold, Lack, Cancel, Close, Entry, Pair, Book}
-use Rattle.history.proofs.Words.{◌+◌, ◌-◌, ◌<◌, ◌==◌, nat_tests, Settle, entered, with_part, pair_of, answer_to, entries}
-use Rattle.book.specs.Book.{on_id, becomes}
+use Rattle.history.proofs.Words.{◌+◌, ◌-◌, ◌<◌, ◌==◌, nat_tests, Settle, entered, with_part, pair_of, answer_to, entries, on_id, becomes}
 use Rattle.history.proofs.Accepted.{Accepts, open_day, accepts, settles}
 use Rattle.history.proofs.Ids.{AreApart, all_changed, apart_changed, apart_push, all-map, all-append, id-pair_of, none_found}
 use Rattle.history.proofs.Agrees.{IsOpen, IsSpent, IsUnused, Kept, below_last, not_yet}

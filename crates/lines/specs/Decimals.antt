@@ -12,7 +12,7 @@ pub record StandFor (digits : List ℕ) (number : ℕ) : Type 0 where
   pub value : digits_value 10 digits ≡ number
 
 -- The decimal of a number is the one text that stands for it, and it has at most 11 digits exactly where the number is below
--- the limit of a field's.
+-- the limit of a field's number.
 pub record IsDecimal (number : ℕ) : Type 0 where
   pub one_text : (digits : List ℕ) → StandFor digits number ↔ (digits ≡ decimal number)
   pub short : (length (decimal number) ≤ 11) ↔ (number < short_limit)

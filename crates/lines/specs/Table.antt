@@ -63,9 +63,9 @@ call_from numbers = call_made (slice_index_or numbers 0 0) (drop 1 numbers)
 
 -- A call is its numbers.
 pub record CallsAreNumbers : Type 0 where
-  -- Each call has so many of them.
+  -- Each call has as many as there are columns.
   pub count : (call : Call) → length (numbers_of call) ≡ column_count
-  -- The first is a call's number exactly where it is one of those that are counted.
+  -- A number is the first of some call's exactly from 1 to the count of calls.
   pub number : (n : ℕ) → ((call : Call) × (slice_index_or (numbers_of call) 0 0 ≡ n)) ↔ IsNumber n
   -- They make it again.
   pub same_call : (call : Call) → call_from (numbers_of call) ≡ call

@@ -12,7 +12,7 @@ ghost use Rattle.lines.specs.Table.{CallsAreNumbers};
 ghost use Rattle.lines.specs.Written.{names_line};
 ghost use Rattle.lines.specs.Worked.{WorkedHold};
 
-/// Each call is its numbers, and numbers are at most one call's.
+/// Each call is its numbers; which numbers are a call's, and which are none's.
 #[tactic(auto, using(crate::proofs::Calls::calls_are_numbers))]
 pub fn calls_are_numbers()
     ensures { CallsAreNumbers }

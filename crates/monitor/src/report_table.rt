@@ -29,6 +29,7 @@ fn report_fields(run: Run, category: u64, report: Report) -> ArrayVec<Option<u64
     let mut fields = ArrayVec::new();
     fields.push(Some(run.first));
     fields.push(Some(run.last));
+    // There is room for all of them.
     let _ = fields.try_extend_from_slice(&row_fields(category, report.sums));
     fields.push(Some(report.rate_by_number));
     fields.push(Some(report.rate_by_value));

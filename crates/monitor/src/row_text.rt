@@ -16,7 +16,7 @@ pub const SHORTEST_BUFFER: usize = 128;
 /// The columns of a row.
 pub(crate) const ROW_COLUMNS: usize = 10;
 
-/// As many bytes as a line of any ten numbers may take: 20 digits each, and a byte behind.
+/// As many bytes as the line of a row may take, whatever its numbers: 20 digits each, and a byte behind.
 const LINE_ROOM: usize = 21 * ROW_COLUMNS;
 
 /// The columns of the table.

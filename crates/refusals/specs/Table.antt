@@ -47,7 +47,7 @@ view_of_calls h = record {
 
 -- ---- when a number applies to a call
 
--- 1: any of the six, today = 64
+-- 1: any call, today = 64
 abbrev pub is_finished : View → Bool
 is_finished v = nat_le day_limit v.today
 

@@ -4,8 +4,8 @@ use Rattle.std.specs.List.{range_with_len}
 use Rattle.book.specs.Limits.{category_count}
 use Rattle.book.specs.declared.book.Book.{Book}
 use Rattle.book.specs.declared.calls.Refusal.{Refusal}
-use Rattle.book.specs.declared.figures.Figure.{Figure}
 use Rattle.book.specs.declared.calls.Refusal.TheVariants.{NotClosed}
+use Rattle.book.specs.declared.figures.Figure.{Figure}
 use Rattle.reports.specs.declared.report.Report.{Report}
 use Rattle.reports.specs.declared.nine.NumberedReport.{NumberedReport}
 use Rattle.reports.specs.Sums.{no_row}

@@ -1,8 +1,7 @@
 -- Each call keeps each pair's amount: a settle moves its part from the rest to the parts, a cancel the rest to the rest at cancel.
 use Rattle.history.proofs.Words.{◌≡◌, List, [], ◌∷◌, Ok, refl, arith, AllByRecursion, nat_tests, Call, Enter, Settle, Cancel, Close}
-use Rattle.history.proofs.Words.{Entry, Book, accepted_after, answer_to, day_of, entries}
+use Rattle.history.proofs.Words.{Entry, Book, accepted_after, answer_to, day_of, entries, on_id, becomes}
 use Rattle.history.proofs.Ids.{eq-own, eq-other, all-both, NoCancel, all-map}
-use Rattle.book.specs.Book.{on_id, becomes}
 use Rattle.history.proofs.Agrees.{IsSpent}
 use Rattle.history.proofs.Accepted.{open_pair, accepts, settles}
 use Rattle.counted.specs.PairCalls.{open_of}

@@ -1,11 +1,10 @@
 -- One pair balances, by its forecast: the fails of a day, and before its close those that it would have if the day closed now.
 -- So one equation holds at every moment. A close moves nothing, and each other call changes it for its own pair alone.
-use Rattle.history.proofs.Words.{◌≡◌, ◌≢◌, ℕ, ◌+◌, ◌-◌, ◌<◌, ◌≤◌, Bool, ◌&&◌, List, [], ◌∷◌, filter, refl}
+use Rattle.history.proofs.Words.{◌≡◌, ◌≢◌, ℕ, ◌+◌, ◌-◌, ◌<◌, ◌≤◌, Bool, ◌&&◌, List, [], ◌∷◌, filter, refl, becomes}
 use Rattle.history.proofs.Words.{sym, arith, if◌then◌else◌, ◌==◌, nat_le, nat_lt, nat_tests, Call, Enter, Settle, Cancel, Close, Entry}
 use Rattle.history.proofs.Words.{Pair, is_failing, is_first_part, has_id, changed, Measure, Number, Value, sum_of, of_two, day_of, settled_on, Book}
 use Rattle.selections.specs.Readings.{rest_of, rest_at_close, due_of, cancelled_of}
 use Rattle.history.proofs.Pairs.{sum_of-append}
-use Rattle.book.specs.Book.{becomes}
 use Rattle.history.proofs.Ids.{plus_left, eq-own, not_before}
 use Rattle.history.proofs.Agrees.{IsOpen, not_yet, not_on}
 use Rattle.counted.specs.PairCalls.{settled, fails, of_part, open_of, given}

@@ -3,10 +3,9 @@ use Rattle.history.proofs.Words.{◌≡◌, ◌≢◌, inl, inr, ℕ, zero, suc,
 use Rattle.history.proofs.Words.{◌∷◌, filter, Some, Ok, refl, ap, ◌∙◌, sym, arith, if◌then◌else◌, ◌==◌, nat_le, nat_lt}
 use Rattle.history.proofs.Words.{AllByRecursion, cases_Bool, nat_tests, Call, Enter, Settle, Cancel, Close, Entry, Pair, Book, entered}
 use Rattle.history.proofs.Words.{accepted_after, answer_to, has_id, pair_of, Measure, Number, Value, sum_of, of_two, day_of, entries, settled_on}
-use Rattle.history.proofs.Words.{book_of, history_of, eqb_tells}
+use Rattle.history.proofs.Words.{book_of, history_of, eqb_tells, on_id, becomes}
 use Rattle.history.proofs.Days.{closed_day}
 use Rattle.history.proofs.Pairs.{as_entered, origins, all_of_pair}
-use Rattle.book.specs.Book.{on_id, becomes}
 use Rattle.history.proofs.Ids.{plus_left, all-both, all-map, id-pair_of}
 use Rattle.history.proofs.Agrees.{IsOpen, IsSpent}
 use Rattle.history.proofs.Accepted.{open_pair, accepts, settles}

@@ -1,5 +1,5 @@
 -- Lines of numbers and lent buffers worked by hand.
-use Rattle.std.specs.Prelude.{◌≡◌, ℕ, List, [], ◌∷◌, codes, None, Some}
+use Rattle.std.specs.Prelude.{◌≡◌, [], ◌∷◌, codes, None, Some}
 use Rattle.texts.specs.Lines.{line_text, written}
 
 -- numbers, none, 0, and the largest of 64 bits, each as a field; and texts put at a buffer's start

@@ -139,7 +139,7 @@ worked =
     ∷ gives Close 0
     ∷ []
 
--- the same, then closes on days 5 to 63; then today = 64, and any of the six is refused by 1, whatever its values
+-- the same, then closes on days 5 to 63; then today = 64, and any call is refused by 1, whatever its values
 abbrev pub worked_to_end : List Event
 worked_to_end =
     worked
